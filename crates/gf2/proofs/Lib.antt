@@ -1,0 +1,3 @@
+-- Laws of words of any width.
+pub mod Xor
+pub mod Coefficients

@@ -1,0 +1,5 @@
+-- Words of bits of any width, as document 01 speaks of them: read Word, then Polynomial, then Check.
+pub mod Word
+pub mod Polynomial
+pub mod Check
+pub mod Generator
