@@ -6,7 +6,6 @@ use lib.ListN.{length}
 use Rattle.gf2.specs.Word.{Word, _⊕_, zeros}
 
 infixl 70 _·_
-
 -- a word times a bit
 abbrev pub _·_ : Bool → Word → Word
 b · x = map (λ a. b && a) x

@@ -7,7 +7,6 @@ use lib.ListN.{replicate}
 
 infixl 65 _⊻_
 infixl 60 _⊕_
-
 abbrev pub Word : Type 0
 Word = List Bool
 
@@ -45,6 +44,13 @@ parity (a ∷ x) = parity x ⊻ a
 abbrev pub isZero : Word → Bool
 isZero [] = true
 isZero (a ∷ x) = not a && isZero x
+
+-- two words are the same
+abbrev pub same : Word → Word → Bool
+same [] [] = true
+same [] (b ∷ y) = false
+same (a ∷ x) [] = false
+same (a ∷ x) (b ∷ y) = not (a ⊻ b) && same x y
 
 -- place i turned over
 abbrev pub flip : ℕ → Word → Word

@@ -1,0 +1,5 @@
+-- One line of 70 bytes, in document 01's order: read Places, then Code, then Reading, then Entry.
+pub mod Places
+pub mod Code
+pub mod Reading
+pub mod Entry

@@ -1,0 +1,68 @@
+// Writing a line, and reading one alone (document 000, III-C).
+use crate::crc;
+use crate::hamming;
+use crate::hamming::Answer;
+use crate::place;
+ghost use mathlib.Core.Path.{_≡_};
+ghost use Rattle.linecode.specs.Places.{places, lineOf};
+ghost use Rattle.linecode.specs.Code.{dataOf, codeword, isCorrect};
+ghost use Rattle.linecode.specs.Entry.{written, reading};
+
+// A line as it reads alone, and its mark: 0 untouched, 1 after a flip, 4 faulty.
+pub struct Reading {
+    pub line: [u8; 70],
+    pub mark: u8,
+}
+
+// A line with its CRC and its Hamming bits written afresh from its data.
+pub fn rewrite(line: [u8; 70]) -> [u8; 70]
+    ensures { λ r. ⌜ r ≡ lineOf (codeword (dataOf (places line))) ⌝ }
+{
+    hamming::append(crc::append(line))
+}
+
+// A line written from 64 data bytes.
+pub fn write_line(payload: [u8; 64]) -> [u8; 70]
+    ensures { λ r. ⌜ r ≡ written payload ⌝ }
+{
+    rewrite(place::load(&payload))
+}
+
+// A line read alone: the CRC compared, the corrector, the CRC compared once more.
+pub fn read_line(line: [u8; 70]) -> Reading
+    ensures { λ r. ⌜ r ≡ reading line ⌝ }
+{
+    if crc::agrees(line) {
+        return Reading {
+            line: hamming::append(line),
+            mark: 0,
+        };
+    }
+    let Answer::Protected(i) = hamming::answer_to(hamming::syndrome_of(line)) else {
+        return Reading {
+            line: place::clear_spare(line),
+            mark: 4,
+        };
+    };
+    let flipped = place::flip_place(line, i);
+    if crc::agrees(flipped) {
+        return Reading {
+            line: hamming::append(flipped),
+            mark: 1,
+        };
+    }
+    Reading {
+        line: place::clear_spare(line),
+        mark: 4,
+    }
+}
+
+// Whether the places of a line are what writing its data gives.
+pub fn is_correct(line: [u8; 70]) -> bool
+    ensures { λ r. ⌜ r ≡ isCorrect (places line) ⌝ }
+{
+    if crc::agrees(line) {
+        return hamming::position_sum(line) == hamming::stored(line);
+    }
+    false
+}
