@@ -42,7 +42,7 @@ low-differ a b =
 half-xor : (a b : ℕ) → bitXor a b / 2 ≡ bitXor (a / 2) (b / 2)
 half-xor a b = xor-shr a b 1
 
-low-xor : (a b : ℕ) → eqb (bitXor a b % 2) 1 ≡ eqb (a % 2) 1 ⊻ eqb (b % 2) 1
+pub low-xor : (a b : ℕ) → eqb (bitXor a b % 2) 1 ≡ eqb (a % 2) 1 ⊻ eqb (b % 2) 1
 low-xor a b =
     ap (λ (n : ℕ). eqb n 1) (low-differ a b)
     ∙ differ-digit (a % 2) (b % 2) (omega arith) (omega arith) .1
@@ -71,11 +71,11 @@ bitXor-assoc =
     step a ih b c =
         xor-step (bitXor a b) c
         ∙ ap₂ (λ (x y : ℕ). x * 2 + y)
-            (ap (λ (x : ℕ). bitXor x (c / 2)) (half-xor a b) ∙ ih (b / 2) (c / 2)
-            ∙ ap (bitXor (a / 2)) (sym (half-xor b c)))
-            (ap (λ (x : ℕ). differ x (c % 2)) (low-differ a b)
-            ∙ differ-assoc (a % 2) (b % 2) (c % 2) (omega arith) (omega arith) (omega arith)
-            ∙ ap (differ (a % 2)) (sym (low-differ b c)))
+        (ap (λ (x : ℕ). bitXor x (c / 2)) (half-xor a b) ∙ ih (b / 2) (c / 2)
+        ∙ ap (bitXor (a / 2)) (sym (half-xor b c)))
+        (ap (λ (x : ℕ). differ x (c % 2)) (low-differ a b)
+        ∙ differ-assoc (a % 2) (b % 2) (c % 2) (omega arith) (omega arith) (omega arith)
+        ∙ ap (differ (a % 2)) (sym (low-differ b c)))
         ∙ sym (xor-step a (bitXor b c))
 
 -- ---- digits and number undo one another
@@ -108,6 +108,7 @@ digits-number (false ∷ w) =
   where
     low : (n : ℕ) → 2 * n % 2 ≡ 0
     low n = omega arith
+
     half : (n : ℕ) → 2 * n / 2 ≡ n
     half n = omega arith
 digits-number (true ∷ w) =
@@ -116,6 +117,7 @@ digits-number (true ∷ w) =
   where
     low : (n : ℕ) → suc (2 * n) % 2 ≡ 1
     low n = omega arith
+
     half : (n : ℕ) → suc (2 * n) / 2 ≡ n
     half n = omega arith
 
