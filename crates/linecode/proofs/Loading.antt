@@ -1,0 +1,58 @@
+-- Copying the first bytes of a slice over zeros.
+use mathlib.Core.Path.{_≡_, refl, sym, ap, ap₂, _∙_}
+use mathlib.Core.List.{List, [], _∷_, _++_, append-nil}
+use Prim.Native.Nat.{ℕ, zero, suc, _+_, _-_, _≤_, _<_, min}
+use native.Mathlib.Nat.{zero-add, suc-sub-suc, sub-zero}
+use native.Mathlib.Numerals.{add-one}
+use native.Mathlib.Omega.{arith}
+use native.Mathlib.Decide.{decLe}
+use lib.ListN.{length, take, drop, getD, set, replicate, length-replicate, drop-of-length-le}
+use lib.Seq.{take-all, take-append-le, take-append-add, paste, paste-zero, paste-suc}
+use Rattle.linecode.specs.Places.{lineBytes, loaded}
+use Rattle.linecode.proofs.Line.{bytes-is}
+
+abbrev pub blank : List ℕ
+blank = replicate 70 0
+
+drop-replicate : (k n : ℕ) → drop {A = ℕ} k (replicate n 0) ≡ replicate (n - k) 0
+drop-replicate zero n = ap (λ (m : ℕ). replicate {A = ℕ} m 0) (sym (sub-zero n))
+drop-replicate (suc k) zero = ap (λ (m : ℕ). replicate {A = ℕ} m 0) (sym (none k))
+  where
+    none : (k : ℕ) → 0 - suc k ≡ 0
+    none k = omega arith
+drop-replicate (suc k) (suc n) = drop-replicate k n ∙ ap (λ (m : ℕ). replicate {A = ℕ} m 0) (sym (suc-sub-suc n k))
+
+take-replicate : (k n : ℕ) → k ≤ n → take {A = ℕ} k (replicate n 0) ≡ replicate k 0
+take-replicate zero n h = refl
+take-replicate (suc k) zero h = let z : ⊥ = omega arith in absurd z
+take-replicate (suc k) (suc n) h = ap (λ (l : List ℕ). 0 ∷ l) (take-replicate k n (omega arith))
+
+pub copy-step : (s l : List ℕ) (i : ℕ) → i < 70 → i < length s → l ≡ paste blank 0 s i
+    → set l i (getD s i 0) ≡ paste blank 0 s (i + 1)
+copy-step s l i h k e =
+    ap₂ (λ (m : List ℕ) (j : ℕ). set m j (getD s i 0)) e (sym (zero-add i))
+    ∙ paste-suc blank 0 s i 0 (omega (arith, length-replicate {A = ℕ} 70 0)) k
+    ∙ ap (paste blank 0 s) (sym (add-one i))
+
+-- n is the slice's length or 70, whichever is less
+pub copied : (s : List ℕ) (n : ℕ) → n ≡ min (length s) 70 → paste blank 0 s n ≡ loaded s
+unfolding loaded
+copied s n e = go (decLe 70 (length s))
+  where
+    start : paste blank 0 s n ≡ take n s ++ drop n blank
+    start = ap (λ (k : ℕ). take n s ++ drop k blank) (zero-add n)
+    seventy : take lineBytes (s ++ replicate lineBytes 0) ≡ take 70 (s ++ blank)
+    seventy = ap (λ (k : ℕ). take k (s ++ replicate k 0)) bytes-is
+    go : Dec (70 ≤ length s) → paste blank 0 s n ≡ take lineBytes (s ++ replicate lineBytes 0)
+    go (yes h) =
+        let m : n ≡ 70 = omega arith in
+        start ∙ ap (λ (k : ℕ). take k s ++ drop k blank) m
+        ∙ append-nil (take 70 s)
+        ∙ sym (seventy ∙ take-append-le 70 s blank h)
+    go (no h) =
+        let m : n ≡ length s = omega arith in
+        let k : 70 ≡ length s + (70 - length s) = omega arith in
+        start ∙ ap₂ _++_ (take-all n s (omega arith)) (drop-replicate n 70 ∙ ap (λ (j : ℕ). replicate {A = ℕ} (70 - j) 0) m)
+        ∙ sym (seventy ∙ ap (λ (j : ℕ). take j (s ++ blank)) k
+        ∙ take-append-add s blank (70 - length s)
+        ∙ ap (λ (l : List ℕ). s ++ l) (take-replicate (70 - length s) 70 (omega arith)))
