@@ -75,18 +75,23 @@ tryPlaces read n c (p ∷ ps) =
     let later = tryPlaces read n c ps in
     cond (isFaulty trial) later (record { line = trial .line; mark = 2 })
 
--- each of the lines in rising order tries each place in rising order
+-- each faulty one of the lines, in rising order, tries each place in rising order
 abbrev pub tryLines : Reading → List ℕ → State → List ℕ → State
 tryLines read places s [] = s
-tryLines read places s (n ∷ ns) = tryLines read places (set s n (tryPlaces read n (cellAt s n) places)) ns
+tryLines read places s (n ∷ ns) =
+    let c = cellAt s n in
+    let tried = tryPlaces read n c places in
+    tryLines read places (set s n (cond (isFaulty c) tried c)) ns
 
--- if two or more lines are faulty and the mismatch, worked out once, has 1 to 6 places, each faulty line tries them
+-- two or more lines are faulty, and the mismatch has 1 to 6 places
+abbrev pub triable : Group → State → Bool
+triable g s =
+    let places = length (mismatch g s) in
+    leb 2 (length (faultyOf s (g .members))) && (leb 1 places && leb places 6)
+
+-- then the faulty lines try the places of the mismatch, which is worked out once
 unfoldable pub trial : Reading → Group → State → State
-trial read g s =
-    let faulty = faultyOf s (g .members) in
-    let places = mismatch g s in
-    let tried = tryLines read places s faulty in
-    cond (leb 2 (length faulty) && (leb 1 (length places) && leb (length places) 6)) tried s
+trial read g s = let tried = tryLines read (mismatch g s) s (g .members) in cond (triable g s) tried s
 
 -- a visit
 unfoldable pub visit : Reading → Group → State → State
