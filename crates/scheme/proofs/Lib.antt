@@ -1,6 +1,10 @@
 -- Laws of the SuDoku steps.
 pub mod Lists
+pub mod Words
+pub mod Sums
 pub mod Grows
 pub mod Steps
 pub mod Passes
 pub mod Stays
+pub mod Faithful
+pub mod Mends

@@ -86,7 +86,7 @@ module _ (read : Reading) (gs : List Group) where
   idle-pass s e = grows-count (pass-grows read gs s) .1 e
 
   -- a way to prove what holds of every store and what the passes make of it: by the rounds of the loop
-  by-rounds : (P : State → Repaired → Type 0)
+  pub by-rounds : (P : State → Repaired → Type 0)
       → ((s : State) → faultyCount s ≡ 0 → P s (record { cells = s; passes = 0 }))
       → ((s : State) → (faultyCount s ≡ 0 → ⊥) → pass read gs s ≡ s → P s (record { cells = pass read gs s; passes = 1 }))
       → ((s : State) → (later : Repaired) → faultyCount (pass read gs s) < faultyCount s → P (pass read gs s) later
