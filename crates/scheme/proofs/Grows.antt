@@ -1,6 +1,6 @@
 -- Growing: each line stays as it is, with its mark, or was faulty and is no longer. Every step of repair grows the store.
 use mathlib.Core.Path.{_≡_, refl, sym, ap, ap₂, _∙_}
-use mathlib.Core.Bool.{Bool, true, false}
+use mathlib.Core.Bool.{Bool, true, false, cond}
 use mathlib.Core.List.{List, [], _∷_}
 use Prim.Native.Nat.{ℕ, zero, suc, _+_, _≤_, _<_}
 use native.Mathlib.Nat.{le-refl, le-step, suc-inj}
@@ -8,7 +8,7 @@ use native.Mathlib.Omega.{arith}
 use borrow.Author.Tests.{eqb-true, eqb-false, eq-eqb}
 use lib.ListN.{length, getD, set}
 use Rattle.scheme.specs.Layer.{Cell}
-use Rattle.scheme.specs.Visit.{State, cellAt, isFaulty}
+use Rattle.scheme.specs.Visit.{State, cellAt, isFaulty, select}
 use Rattle.scheme.specs.Repair.{faultyCount}
 
 -- a cell stays, or was faulty and is no longer
@@ -58,6 +58,21 @@ grows-count (cons {c} {d} {s} {t} (same p) g) = go (isFaulty c) refl (grows-coun
     go false q r = rw (p, q) (r .0, λ e. ap (λ (u : State). c ∷ u) (r .1 e))
 grows-count (cons {c} {d} {s} {t} (mended p q) g) =
     rw (p, q) (le-step (grows-count g .0), λ e. let z : ⊥ = omega (arith, grows-count g .0) in absurd z)
+
+-- counting no faulty line is finding none
+pub none-counted : (s : State) → faultyCount s ≡ 0 → (n : ℕ) → isFaulty (cellAt s n) ≡ false
+none-counted [] e n = refl
+none-counted (c ∷ s) e n = go (isFaulty c) refl e n (none-counted s)
+  where
+    go : (b : Bool) → isFaulty c ≡ b → length (cond b (c ∷ select isFaulty s) (select isFaulty s)) ≡ 0 → (n : ℕ)
+        → (faultyCount s ≡ 0 → (n : ℕ) → isFaulty (cellAt s n) ≡ false) → isFaulty (cellAt (c ∷ s) n) ≡ false
+    go true h e n rest = let z : ⊥ = omega arith in absurd z
+    go false h e zero rest = h
+    go false h e (suc n) rest = rest e n
+
+pub none-found : (s : State) → ((n : ℕ) → isFaulty (cellAt s n) ≡ false) → faultyCount s ≡ 0
+none-found [] h = refl
+none-found (c ∷ s) h = rw (h 0) (none-found s (λ n. h (suc n)))
 
 -- an accepted cell stays
 pub kept-accepted : {c d : Cell} → Kept c d → (c .mark ≡ 4 → ⊥) → d ≡ c

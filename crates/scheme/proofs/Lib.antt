@@ -8,3 +8,5 @@ pub mod Passes
 pub mod Stays
 pub mod Faithful
 pub mod Mends
+pub mod Pair
+pub mod ExactReturn

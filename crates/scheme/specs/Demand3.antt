@@ -8,6 +8,7 @@ use lib.ListN.{length, getD}
 use Rattle.gf2.specs.Word.{Word, _⊕_, distance}
 use Rattle.scheme.specs.Layer.{Layer, CorrectLine}
 use Rattle.scheme.specs.Visit.{Group, sum}
+use Rattle.scheme.specs.Repair.{Repaired, linesOf, answer}
 
 infix 40 _∈_
 -- membership in a list
@@ -77,3 +78,8 @@ module _ (written received : List Word) where
     pub each : (n : ℕ) → n < length written → 2 ≤ damage n → n ∈ order
     pub noOther : (n : ℕ) → n ∈ order → (n < length written) × (2 ≤ damage n)
     pub turns : Turns gs order
+
+-- exactly the store written: the answer is 0, and the lines handed over are the written ones
+pub record Returned (gs : List Group) (written : List Word) (repaired : Repaired) : Type 0 where
+  pub answers : answer gs (repaired .cells) ≡ 0
+  pub exactly : linesOf (repaired .cells) ≡ written

@@ -1,6 +1,6 @@
 -- Repair, as document 01 words it: the first reading, the passes and the answer.
 use mathlib.Core.Bool.{Bool, true, false, cond, _&&_}
-use mathlib.Core.List.{List, [], _∷_}
+use mathlib.Core.List.{List, [], _∷_, map}
 use Prim.Native.Nat.{ℕ, zero, suc}
 use lib.Dec.{eqb}
 use lib.ListN.{length}
@@ -44,6 +44,13 @@ passesFrom read gs s = passesUpTo (faultyCount s) read gs s
 -- repair of the lines found
 unfoldable pub repair : Reading → List Group → List Word → Repaired
 repair read gs found = passesFrom read gs (readAll read 0 found)
+
+-- the lines handed over, and their marks
+abbrev pub linesOf : State → List Word
+linesOf s = map (λ c. c .line) s
+
+abbrev pub marksOf : State → List ℕ
+marksOf s = map (λ c. c .mark) s
 
 -- no parity line differs from that of the lines
 abbrev pub agrees : List Group → State → Bool
