@@ -10,14 +10,14 @@ use borrow.Author.Tests.{eqb-true, eqb-false, eq-eqb, ne-eqb, leb-true, leb-fals
 use lib.Dec.{eqb, leb, ltb}
 use lib.ListN.{length, set, List·getD-eq-default}
 use Rattle.gf2.specs.Word.{Word, _⊕_, flip}
-use Rattle.gf2.proofs.Xor.{xor-cancel}
 use Rattle.scheme.specs.Layer.{Cell, Layer, readLine, ReadsAs, Promises}
 use Rattle.scheme.specs.Visit.{Group, State, cellAt, lineAt, isFaulty, faultyOf, without, sum, rebuild, rebuildOnly, settle, mismatch, tryPlaces, tryLines, triable, trial, visit}
 use Rattle.scheme.specs.Repair.{readAll, pass, passesFrom, repair}
 use Rattle.scheme.specs.Demand3.{_∈_, Rising, RisingGroups, wordAt, Written, damage, Mendable}
 use Rattle.scheme.proofs.Lists.{selected, selects}
 use Rattle.scheme.proofs.Words.{length-flip, distance-flip}
-use Rattle.scheme.proofs.Sums.{sum-ext, sum-length, sum-split}
+use Rattle.scheme.proofs.Sums.{sum-ext}
+use Rattle.scheme.proofs.Written.{others-give}
 use Rattle.scheme.proofs.Passes.{by-rounds}
 use Rattle.scheme.proofs.Stays.{readAll-at, readAll-length}
 
@@ -104,30 +104,14 @@ module _
       go true = tryLines-faithful (mismatch g s) s (g .members) f
       go false = f
 
-  -- written lines have all places, lines past the end none
-  written-length : (n : ℕ) → length (wordAt written n) ≤ layer .width
-  written-length n = go (ltb n (length written)) refl
-    where
-      go : (b : Bool) → ltb n (length written) ≡ b → length (wordAt written n) ≤ layer .width
-      go true e = omega (arith, promises .sized _ _ (w .correct n (ltb-true _ _ e)))
-      go false e = rw (List·getD-eq-default written [] (ltb-false _ _ e)) (omega arith)
-
   -- a line is rebuilt right where the group's other lines are accepted
   pub rebuilt-line : (g : Group) → g ∈ gs → (s : State) → Faithful written received s → (n : ℕ) → n ∈ g .members → n < length written
       → ((m : ℕ) → m ∈ without n (g .members) → isFaulty (cellAt s m) ≡ false)
       → g .parity ⊕ sum (lineAt s) (without n (g .members)) ≡ wordAt written n
   rebuilt-line g i s f n h l others =
-      ap₂ _⊕_ (w .parities g i ∙ sum-split (wordAt written) n (g .members) (rising g i) h)
+      ap (λ (x : Word). g .parity ⊕ x)
       (sum-ext (lineAt s) (wordAt written) (without n (g .members)) (λ m j. right-line written received m _ (f m) (others m j)))
-      ∙ xor-cancel (wordAt written n) (sum (wordAt written) (without n (g .members))) shorter
-    where
-      shorter : length (sum (wordAt written) (without n (g .members))) ≤ length (wordAt written n)
-      shorter =
-          omega (
-            arith,
-            sum-length (layer .width) (wordAt written) (without n (g .members)) (λ m j. written-length m),
-            promises .sized _ _ (w .correct n l),
-          )
+      ∙ others-give layer promises gs rising written w g i n h l
 
   pub settle-faithful : (g : Group) → g ∈ gs → (s : State) → Faithful written received s → Faithful written received (settle g s)
   unfolding settle rebuild

@@ -2,6 +2,7 @@
 pub mod Lists
 pub mod Words
 pub mod Sums
+pub mod Written
 pub mod Grows
 pub mod Steps
 pub mod Passes
@@ -10,3 +11,4 @@ pub mod Faithful
 pub mod Mends
 pub mod Pair
 pub mod ExactReturn
+pub mod NotAlike

@@ -1,6 +1,7 @@
 -- The single-line code as repair sees it: how a line reads alone, which lines are correct, and what is promised of them.
 use mathlib.Core.Path.{_≡_}
 use mathlib.Core.Logic.{_⊎_}
+use mathlib.Core.List.{List, [], _∷_}
 use Prim.Native.Nat.{ℕ, _≤_}
 use lib.Bits.{bitXor}
 use lib.ListN.{length}
@@ -29,6 +30,11 @@ readLine layer n found = layer .read (layer .address n) found
 -- line n is a correct line
 abbrev pub CorrectLine : Layer → ℕ → Word → Type 0
 CorrectLine layer n w = layer .Correct (layer .address n) w
+
+-- the address of a parity line: the exclusive or of its lines' addresses
+abbrev pub parityAddress : Layer → List ℕ → ℕ
+parityAddress layer [] = 0
+parityAddress layer (n ∷ ns) = bitXor (layer .address n) (parityAddress layer ns)
 
 -- a reading that is accepted and gives the line w
 pub record ReadsAs (w : Word) (reading : Cell) : Type 0 where
