@@ -1,19 +1,17 @@
 -- Demand 3, the exact return: where the damage can be put in an order, repair answers 0 and returns exactly the store written.
 use mathlib.Core.Path.{_≡_, refl, sym, ap, _∙_}
 use mathlib.Core.Logic.{_⊎_, inl, inr}
-use mathlib.Core.Bool.{Bool, true, false, cond, _&&_, false≢true}
-use mathlib.Core.List.{List, [], _∷_, map}
-use Prim.Native.Nat.{ℕ, zero, suc, _≤_, _<_}
-use native.Mathlib.Omega.{arith}
-use borrow.Author.Tests.{eqb-true, eqb-false, eq-eqb}
-use lib.Dec.{eqb}
-use lib.ListN.{length, getD, length-map, List·getD-map}
+use mathlib.Core.Bool.{Bool, true, false, false≢true}
+use mathlib.Core.List.{List, [], _∷_}
+use Prim.Native.Nat.{ℕ}
+use borrow.Author.Tests.{eq-eqb}
+use lib.ListN.{length, length-map, List·getD-map}
 use lib.Seq.{ext-getD}
-use Rattle.gf2.specs.Word.{Word, _⊕_, isZero}
-use Rattle.scheme.specs.Layer.{Cell, Layer, readLine, Promises}
+use Rattle.gf2.specs.Word.{Word}
+use Rattle.scheme.specs.Layer.{Layer, readLine, Promises}
 use Rattle.scheme.specs.Visit.{Group, State, cellAt, lineAt, isFaulty, sum, visit}
-use Rattle.scheme.specs.Repair.{readAll, pass, faultyCount, passesFrom, repair, linesOf, agrees, answer}
-use Rattle.scheme.specs.Demand3.{_∈_, RisingGroups, wordAt, Written, damage, Alone, Paired, Turns, Mendable, Returned}
+use Rattle.scheme.specs.Repair.{readAll, pass, faultyCount, repair, linesOf, agrees, answer}
+use Rattle.scheme.specs.Demand3.{_∈_, RisingGroups, wordAt, Written, Alone, Paired, Turns, Mendable, Returned}
 use Rattle.scheme.proofs.Words.{isZero-self}
 use Rattle.scheme.proofs.Sums.{sum-ext}
 use Rattle.scheme.proofs.Grows.{grows-length, none-counted, none-found}

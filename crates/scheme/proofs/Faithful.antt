@@ -1,19 +1,19 @@
 -- The invariant of demand 3: accepted lines are the written ones, faulty lines are as received and have two or more damaged bits.
-use mathlib.Core.Path.{_≡_, refl, sym, ap, ap₂, _∙_}
+use mathlib.Core.Path.{_≡_, refl, sym, ap, _∙_}
 use mathlib.Core.Logic.{_⊎_, inl, inr}
 use mathlib.Core.Bool.{Bool, true, false, not, cond, false≢true}
 use mathlib.Core.List.{List, [], _∷_}
-use Prim.Native.Nat.{ℕ, zero, suc, _+_, _≤_, _<_}
+use Prim.Native.Nat.{ℕ, zero, suc, _≤_, _<_}
 use native.Mathlib.Nat.{zero-add}
 use native.Mathlib.Omega.{arith}
-use borrow.Author.Tests.{eqb-true, eqb-false, eq-eqb, ne-eqb, leb-true, leb-false, ltb-true, ltb-false, not-true}
+use borrow.Author.Tests.{eqb-false, eq-eqb, ne-eqb, leb-true, leb-false, ltb-true, ltb-false, not-true}
 use lib.Dec.{eqb, leb, ltb}
 use lib.ListN.{length, set, List·getD-eq-default}
 use Rattle.gf2.specs.Word.{Word, _⊕_, flip}
 use Rattle.scheme.specs.Layer.{Cell, Layer, readLine, ReadsAs, Promises}
 use Rattle.scheme.specs.Visit.{Group, State, cellAt, lineAt, isFaulty, faultyOf, without, sum, rebuild, rebuildOnly, settle, mismatch, tryPlaces, tryLines, triable, trial, visit}
-use Rattle.scheme.specs.Repair.{readAll, pass, passesFrom, repair}
-use Rattle.scheme.specs.Demand3.{_∈_, Rising, RisingGroups, wordAt, Written, damage, Mendable}
+use Rattle.scheme.specs.Repair.{readAll, pass, passesFrom}
+use Rattle.scheme.specs.Demand3.{_∈_, RisingGroups, wordAt, Written, damage, Mendable}
 use Rattle.scheme.proofs.Lists.{selected, selects}
 use Rattle.scheme.proofs.Words.{length-flip, distance-flip}
 use Rattle.scheme.proofs.Sums.{sum-ext}

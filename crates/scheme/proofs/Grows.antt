@@ -1,12 +1,12 @@
 -- Growing: each line stays as it is, with its mark, or was faulty and is no longer. Every step of repair grows the store.
-use mathlib.Core.Path.{_≡_, refl, sym, ap, ap₂, _∙_}
+use mathlib.Core.Path.{_≡_, refl, ap, _∙_}
 use mathlib.Core.Bool.{Bool, true, false, cond}
-use mathlib.Core.List.{List, [], _∷_}
-use Prim.Native.Nat.{ℕ, zero, suc, _+_, _≤_, _<_}
+use mathlib.Core.List.{[], _∷_}
+use Prim.Native.Nat.{ℕ, zero, suc, _≤_}
 use native.Mathlib.Nat.{le-refl, le-step, suc-inj}
 use native.Mathlib.Omega.{arith}
-use borrow.Author.Tests.{eqb-true, eqb-false, eq-eqb}
-use lib.ListN.{length, getD, set}
+use borrow.Author.Tests.{eqb-true, eqb-false}
+use lib.ListN.{length, set}
 use Rattle.scheme.specs.Layer.{Cell}
 use Rattle.scheme.specs.Visit.{State, cellAt, isFaulty, select}
 use Rattle.scheme.specs.Repair.{faultyCount}

@@ -7,8 +7,10 @@ pub mod Grows
 pub mod Steps
 pub mod Passes
 pub mod Stays
+pub mod Width
 pub mod Faithful
 pub mod Mends
 pub mod Pair
 pub mod ExactReturn
 pub mod NotAlike
+pub mod Example

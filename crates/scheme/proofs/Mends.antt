@@ -1,6 +1,6 @@
 -- What a visit mends: the only faulty line of its group, and a faulty line of which some trial is accepted.
-use mathlib.Core.Path.{_≡_, refl, sym, ap, _∙_}
-use mathlib.Core.Logic.{_⊎_, inl, inr}
+use mathlib.Core.Path.{_≡_, refl, ap, _∙_}
+use mathlib.Core.Logic.{inl, inr}
 use mathlib.Core.Bool.{Bool, true, false, cond, false≢true}
 use mathlib.Core.List.{List, [], _∷_}
 use Prim.Native.Nat.{ℕ, zero, suc}
@@ -10,7 +10,7 @@ use lib.ListN.{set}
 use lib.Seq.{getD-set-other}
 use Rattle.gf2.specs.Word.{flip}
 use Rattle.scheme.specs.Layer.{Cell, Reading}
-use Rattle.scheme.specs.Visit.{Group, State, cellAt, lineAt, isFaulty, faultyOf, rebuild, rebuildOnly, settle, mismatch, tryPlaces, tryLines, triable, trial, visit}
+use Rattle.scheme.specs.Visit.{Group, State, cellAt, lineAt, isFaulty, faultyOf, rebuild, settle, mismatch, tryPlaces, tryLines, triable, trial, visit}
 use Rattle.scheme.specs.Demand3.{_∈_, Rising}
 use Rattle.scheme.proofs.Lists.{selected, selects, rising-select, only-one}
 use Rattle.scheme.proofs.Grows.{Kept, same, mended, Grows, grows-at}

@@ -4,14 +4,14 @@ use mathlib.Core.Path.{_≡_, refl, sym, ap, _∙_}
 use mathlib.Core.Logic.{_⊎_, inl, inr}
 use mathlib.Core.Bool.{Bool, true, false, not}
 use mathlib.Core.List.{List, [], _∷_}
-use Prim.Native.Nat.{ℕ, zero, suc, _≤_, _<_}
+use Prim.Native.Nat.{ℕ, _≤_, _<_}
 use native.Mathlib.Omega.{arith}
 use borrow.Author.Tests.{eqb-false, leb-true, leb-false, ltb-true, ltb-false, not-true}
 use lib.Dec.{eqb, leb, ltb}
 use lib.ListN.{length, List·getD-eq-default}
 use Rattle.gf2.specs.Word.{Word, _⊕_, distance}
 use Rattle.scheme.specs.Layer.{Layer, Promises}
-use Rattle.scheme.specs.Visit.{Group, without, sum}
+use Rattle.scheme.specs.Visit.{Group, without}
 use Rattle.scheme.specs.Demand3.{_∈_, RisingGroups, wordAt, Written, Mendable}
 use Rattle.scheme.proofs.Lists.{selected}
 use Rattle.scheme.proofs.Words.{distance-self}

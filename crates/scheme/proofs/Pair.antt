@@ -1,19 +1,19 @@
 -- Two faulty lines in a group: the mismatch is what damages them, and the line with two damaged bits is mended by trial.
 use mathlib.Core.Path.{_≡_, refl, sym, ap, ap₂, _∙_}
 use mathlib.Core.Logic.{_⊎_, inl, inr}
-use mathlib.Core.Bool.{Bool, true, false, not, _&&_, false≢true}
+use mathlib.Core.Bool.{Bool, true, false, not, false≢true}
 use mathlib.Core.List.{List, [], _∷_}
-use Prim.Native.Nat.{ℕ, zero, suc, _+_, _≤_, _<_}
+use Prim.Native.Nat.{ℕ, _+_, _≤_, _<_}
 use native.Mathlib.Nat.{zero-add}
 use native.Mathlib.Omega.{arith}
 use borrow.Author.Tests.{eqb-false, ne-eqb, le-leb, not-true}
-use lib.Dec.{eqb, leb}
+use lib.Dec.{eqb}
 use lib.ListN.{length, getD}
 use Rattle.gf2.specs.Word.{Word, _⊻_, _⊕_, weight, distance, flip}
 use Rattle.gf2.proofs.Xor.{xor-comm}
 use Rattle.scheme.specs.Layer.{Layer, readLine, Promises}
 use Rattle.scheme.specs.Visit.{Group, State, cellAt, lineAt, isFaulty, faultyOf, without, sum, mismatch, triable, visit}
-use Rattle.scheme.specs.Demand3.{_∈_, Rising, RisingGroups, wordAt, Written, damage, Paired, Mendable}
+use Rattle.scheme.specs.Demand3.{_∈_, Rising, RisingGroups, wordAt, Written, Paired, Mendable}
 use Rattle.scheme.proofs.Lists.{selected, selects, rising-select, at-least-two}
 use Rattle.scheme.proofs.Words.{weight-xor, place-xor, place-light, distance-self, distance-mend, length-flip, length-setPlaces, in-setPlaces}
 use Rattle.scheme.proofs.Sums.{sum-xor, sum-light, sum-split}

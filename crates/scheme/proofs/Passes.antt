@@ -1,5 +1,5 @@
 -- The passes: the loop's equation without its bound, its end, and the number of passes.
-use mathlib.Core.Path.{_≡_, refl, sym, ap, _∙_}
+use mathlib.Core.Path.{_≡_, refl, ap, _∙_}
 use mathlib.Core.Logic.{_⊎_, inl, inr, _↔_}
 use mathlib.Core.Bool.{Bool, true, false, cond}
 use mathlib.Core.List.{List, [], _∷_}
@@ -8,9 +8,10 @@ use native.Mathlib.Nat.{le-refl}
 use native.Mathlib.Omega.{arith}
 use borrow.Author.Tests.{eqb-true, eqb-false, eq-eqb, ne-eqb}
 use lib.Dec.{eqb}
+use Rattle.gf2.specs.Word.{Word}
 use Rattle.scheme.specs.Layer.{Reading}
 use Rattle.scheme.specs.Visit.{Group, State, visit}
-use Rattle.scheme.specs.Repair.{pass, faultyCount, Repaired, passesUpTo, passesFrom}
+use Rattle.scheme.specs.Repair.{readAll, pass, faultyCount, Repaired, passesUpTo, passesFrom, repair}
 use Rattle.scheme.specs.Demand3.{_∈_}
 use Rattle.scheme.proofs.Grows.{Grows, grows-refl, grows-trans, grows-count}
 use Rattle.scheme.proofs.Steps.{visit-grows, pass-grows}
@@ -140,3 +141,20 @@ pub idle-visits : (read : Reading) (gs : List Group) (s : State) → pass read g
 idle-visits read [] s e g h = absurd h
 idle-visits read (f ∷ gs) s e g (inl p) = rw p (first-idle read f gs s e)
 idle-visits read (f ∷ gs) s e g (inr q) = idle-visits read gs s (rw (first-idle read f gs s e) at e) g q
+
+module _ (read : Reading) (gs : List Group) (found : List Word) where
+  -- "Repair also returns its passes: 0 when nothing was faulty after the first reading"
+  pub repair-passes-none : (repair read gs found .passes ≡ 0) ↔ (faultyCount (readAll read 0 found) ≡ 0)
+  unfolding repair
+  repair-passes-none = passes-none read gs (readAll read 0 found)
+
+  -- "never more than the lines faulty then"
+  pub repair-passes-bound : repair read gs found .passes ≤ faultyCount (readAll read 0 found)
+  unfolding repair
+  repair-passes-bound = passes-bound read gs (readAll read 0 found)
+
+  -- lines are given up only when a whole pass mends none of them
+  pub repair-end : (faultyCount (repair read gs found .cells) ≡ 0)
+      ⊎ (pass read gs (repair read gs found .cells) ≡ repair read gs found .cells)
+  unfolding repair
+  repair-end = passes-end read gs (readAll read 0 found)

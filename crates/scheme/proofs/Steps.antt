@@ -1,11 +1,9 @@
 -- A rebuilding, the trials, a visit and a pass grow the store, whatever the groups and the reading are.
-use mathlib.Core.Path.{_≡_, refl, sym, ap, _∙_}
-use mathlib.Core.Logic.{inl, inr}
+use mathlib.Core.Path.{_≡_, refl}
+use mathlib.Core.Logic.{inl}
 use mathlib.Core.Bool.{Bool, true, false, cond}
 use mathlib.Core.List.{List, [], _∷_}
-use Prim.Native.Nat.{ℕ, zero, suc}
-use lib.Dec.{leb}
-use lib.ListN.{length, set}
+use Prim.Native.Nat.{ℕ}
 use Rattle.gf2.specs.Word.{flip}
 use Rattle.scheme.specs.Layer.{Cell, Reading}
 use Rattle.scheme.specs.Visit.{Group, State, cellAt, isFaulty, faultyOf, rebuild, rebuildOnly, settle, mismatch, tryPlaces, tryLines, triable, trial, visit}

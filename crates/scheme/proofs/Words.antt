@@ -1,14 +1,14 @@
 -- Weight, distance and single places of words, and the places of a mismatch.
 use mathlib.Core.Path.{_≡_, refl, sym, ap, _∙_}
 use mathlib.Core.Logic.{inl, inr}
-use mathlib.Core.Bool.{Bool, true, false, not, false≢true}
-use mathlib.Core.List.{List, [], _∷_}
+use mathlib.Core.Bool.{true, false, false≢true}
+use mathlib.Core.List.{[], _∷_}
 use Prim.Native.Nat.{ℕ, zero, suc, _+_, _≤_}
 use native.Mathlib.Nat.{add-zero, add-suc, suc-add, suc-inj, le-refl}
 use native.Mathlib.Omega.{arith}
 use lib.ListN.{length, getD}
 use Rattle.gf2.specs.Word.{Word, _⊻_, _⊕_, zeros, weight, distance, isZero, flip}
-use Rattle.gf2.proofs.Xor.{bit-zero-l, xor-self, xor-comm}
+use Rattle.gf2.proofs.Xor.{bit-zero-l, xor-self}
 use Rattle.scheme.specs.Visit.{setPlaces}
 use Rattle.scheme.specs.Demand3.{_∈_}
 
