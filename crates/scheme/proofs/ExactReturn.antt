@@ -125,10 +125,14 @@ module _
       ∙ readAll-length (readLine layer) 0 received
       ∙ mendable .lines
 
+  pub none-faulty : faultyCount (repair (readLine layer) gs received .cells) ≡ 0
+  unfolding end
+  none-faulty = none-found end end-accepted
+
   pub exact-return : Returned gs written (repair (readLine layer) gs received)
   unfolding end answer
   exact-return =
       record {
-        answers = rw (eq-eqb (faultyCount end) 0 (none-found end end-accepted), end-agrees gs (λ g i. i)) refl;
+        answers = rw (eq-eqb (faultyCount end) 0 none-faulty, end-agrees gs (λ g i. i)) refl;
         exactly = ext-getD [] (linesOf end) written (length-map end _ ∙ end-length) (λ n h. List·getD-map _ end n _ ∙ end-line n);
       }

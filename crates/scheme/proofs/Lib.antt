@@ -1,4 +1,5 @@
--- Laws of the SuDoku steps.
+-- Laws of the SuDoku steps, over any list of groups: accepted lines stay (Stays), the passes (Passes), demand 3 (ExactReturn,
+-- NotAlike), and what these rest on.
 pub mod Lists
 pub mod Words
 pub mod Sums

@@ -25,6 +25,7 @@ Rising (n ∷ ns) = ((m : ℕ) → m ∈ ns → n < m) × Rising ns
 abbrev pub RisingGroups : List Group → Type 0
 RisingGroups gs = (g : Group) → g ∈ gs → Rising (g .members)
 
+-- line n of a list of lines
 abbrev pub wordAt : List Word → ℕ → Word
 wordAt ws n = getD ws n []
 

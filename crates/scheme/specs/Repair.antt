@@ -27,7 +27,7 @@ pub record Repaired : Type 0 where
   pub cells : State
   pub passes : ℕ
 
--- while some line is faulty, a pass; they end when none is faulty or a pass mended nothing (at most k of them)
+-- while some line is faulty, a pass; passes end when none is faulty or a pass mended nothing (at most k of them)
 abbrev pub passesUpTo : ℕ → Reading → List Group → State → Repaired
 passesUpTo zero read gs s = record { cells = s; passes = 0 }
 passesUpTo (suc k) read gs s =
@@ -45,10 +45,11 @@ passesFrom read gs s = passesUpTo (faultyCount s) read gs s
 unfoldable pub repair : Reading → List Group → List Word → Repaired
 repair read gs found = passesFrom read gs (readAll read 0 found)
 
--- the lines handed over, and their marks
+-- the lines that repair hands over
 abbrev pub linesOf : State → List Word
 linesOf s = map (λ c. c .line) s
 
+-- their marks
 abbrev pub marksOf : State → List ℕ
 marksOf s = map (λ c. c .mark) s
 

@@ -7,7 +7,7 @@ use lib.ListN.{length, getD, set}
 use Rattle.gf2.specs.Word.{Word, _⊕_, flip}
 use Rattle.scheme.specs.Layer.{Cell, Reading}
 
--- a group of lines: their numbers, rising, and their parity line
+-- a row or a column: the numbers of its lines, rising, and its parity line
 pub record Group : Type 0 where
   pub members : List ℕ
   pub parity : Word
@@ -20,9 +20,11 @@ State = List Cell
 abbrev pub cellAt : State → ℕ → Cell
 cellAt s n = getD s n (record { line = []; mark = 0 })
 
+-- line n as it stands
 abbrev pub lineAt : State → ℕ → Word
 lineAt s n = cellAt s n .line
 
+-- the mark of a faulty line
 abbrev pub isFaulty : Cell → Bool
 isFaulty c = eqb (c .mark) 4
 
@@ -44,16 +46,17 @@ abbrev pub sum : (ℕ → Word) → List ℕ → Word
 sum line [] = []
 sum line (n ∷ ns) = line n ⊕ sum line ns
 
--- line n becomes the exclusive or of the parity line and the group's other lines
+-- rebuilding: line n becomes the exclusive or of the parity line and the group's other lines
 unfoldable pub rebuild : Group → State → ℕ → State
 rebuild g s n = set s n (record { line = g .parity ⊕ sum (lineAt s) (without n (g .members)); mark = 3 })
 
--- if exactly one of the lines is faulty, it is rebuilt
+-- of a group's faulty lines, exactly one is rebuilt
 abbrev pub rebuildOnly : Group → State → List ℕ → State
 rebuildOnly g s [] = s
 rebuildOnly g s (n ∷ []) = rebuild g s n
 rebuildOnly g s (n ∷ m ∷ ns) = s
 
+-- if exactly one line of the group is faulty, it is rebuilt
 unfoldable pub settle : Group → State → State
 settle g s = rebuildOnly g s (faultyOf s (g .members))
 
@@ -67,7 +70,7 @@ setPlaces i (true ∷ w) = i ∷ setPlaces (suc i) w
 unfoldable pub mismatch : Group → State → List ℕ
 mismatch g s = setPlaces 0 (sum (lineAt s) (g .members) ⊕ g .parity)
 
--- line n tries each place: flip it, read the line alone; the first accepted trial ends the search and is kept, with mark 2
+-- line n tries each place: flip it, read the line alone; the first accepted trial ends the search and is kept as read
 abbrev pub tryPlaces : Reading → ℕ → Cell → List ℕ → Cell
 tryPlaces read n c [] = c
 tryPlaces read n c (p ∷ ps) =
@@ -93,6 +96,6 @@ triable g s =
 unfoldable pub trial : Reading → Group → State → State
 trial read g s = let tried = tryLines read (mismatch g s) s (g .members) in cond (triable g s) tried s
 
--- a visit
+-- a visit: no faulty line, nothing; one, it is rebuilt; two or more, the trials, and if exactly one is then left, it is rebuilt
 unfoldable pub visit : Reading → Group → State → State
 visit read g s = settle g (trial read g s)
