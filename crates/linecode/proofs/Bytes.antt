@@ -183,6 +183,7 @@ flip-digits (suc n) (suc k) (a ∷ w) e h =
   where
     even : (k : ℕ) → 2 ^ suc k % 2 ≡ 0
     even k = omega arith
+
     half : (k : ℕ) → 2 ^ suc k / 2 ≡ 2 ^ k
     half k = omega arith
 

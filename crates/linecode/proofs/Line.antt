@@ -64,10 +64,12 @@ module _ (p : List ℕ) (few : length p ≡ 67) where
     where
       rest : Word
       rest = bitsOf (a ∷ b ∷ c ∷ [])
+
       front : take protectedPlaces (bitsOf p ++ rest) ≡ bitsOf p ++ digits 7 a
       front =
           let h : protectedPlaces ≡ length (bitsOf p) + 7 = omega (arith, protected-is, bits-before) in
           ap (λ (n : ℕ). take n (bitsOf p ++ rest)) h ∙ take-append-add (bitsOf p) rest 7
+
       back : drop (suc protectedPlaces) (bitsOf p ++ rest) ≡ digits 8 b ++ (digits 8 c ++ [])
       back =
           let h : suc protectedPlaces ≡ length (bitsOf p) + 8 = omega (arith, protected-is, bits-before) in
@@ -82,10 +84,13 @@ module _ (p : List ℕ) (few : length p ≡ 67) where
     where
       before : length (bitsOf p ++ u) ≡ 543
       before = length-append (bitsOf p) u ∙ ap₂ _+_ bits-before e
+
       count : lineBytes ≡ length p + 3
       count = omega (arith, bytes-is, few)
+
       whole : bitsOf p ++ (u ++ t) ≡ (bitsOf p ++ u) ++ t
       whole = sym (append-assoc (bitsOf p) u t)
+
       spread : take protectedPlaces (bitsOf p ++ (u ++ t)) ++ (false ∷ drop protectedPlaces (bitsOf p ++ (u ++ t)))
           ≡ bitsOf p ++ (u ++ (false ∷ t))
       spread =
@@ -94,6 +99,7 @@ module _ (p : List ℕ) (few : length p ≡ 67) where
           (take-at (bitsOf p ++ u) t protectedPlaces (before ∙ sym protected-is))
           (drop-at (bitsOf p ++ u) t protectedPlaces (before ∙ sym protected-is))
           ∙ append-assoc (bitsOf p) u (false ∷ t)
+
       last : (u : Word) → length u ≡ 7 → bytesOf 3 (u ++ (false ∷ t)) ≡ number u ∷ bytesOf 2 t
       last u e =
           ap (bytesOf 3) (sym (append-snoc u false t))
@@ -102,6 +108,7 @@ module _ (p : List ℕ) (few : length p ≡ 67) where
         where
           eight : length (u ++ (false ∷ [])) ≡ 8
           eight = length-append u (false ∷ []) ∙ omega arith
+
           spare : (u : Word) → number (u ++ (false ∷ [])) ≡ number u
           spare [] = refl
           spare (false ∷ u) = ap (λ (n : ℕ). 2 * n) (spare u)

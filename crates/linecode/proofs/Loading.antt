@@ -41,8 +41,10 @@ copied s n e = go (decLe 70 (length s))
   where
     start : paste blank 0 s n ≡ take n s ++ drop n blank
     start = ap (λ (k : ℕ). take n s ++ drop k blank) (zero-add n)
+
     seventy : take lineBytes (s ++ replicate lineBytes 0) ≡ take 70 (s ++ blank)
     seventy = ap (λ (k : ℕ). take k (s ++ replicate k 0)) bytes-is
+
     go : Dec (70 ≤ length s) → paste blank 0 s n ≡ take lineBytes (s ++ replicate lineBytes 0)
     go (yes h) =
         let m : n ≡ 70 = omega arith in

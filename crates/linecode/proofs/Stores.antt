@@ -158,20 +158,28 @@ module _ (l : List ℕ) (whole : length l ≡ 70) (bytes : Bytes l) where
     where
       x : ℕ
       x = r % 256
+
       y : ℕ
       y = r / 256 % 256
+
       z : ℕ
       z = r / 65536 % 256
+
       six : List ℕ
       six = x ∷ y ∷ z ∷ r / 16777216 % 256 ∷ 0 ∷ 0 ∷ []
+
       p : List ℕ
       p = take 64 l ++ (x ∷ y ∷ z ∷ [])
+
       sixty-seven : length p ≡ 67
       sixty-seven = length-append (take 64 l) (x ∷ y ∷ z ∷ []) ∙ ap (λ (n : ℕ). n + 3) (length-take-le 64 l (omega arith))
+
       all : Bytes p
       all = bytes-append (take 64 l) (x ∷ y ∷ z ∷ []) (bytes-take 64 l bytes) (omega arith, (omega arith, (omega arith, tt)))
+
       high : r / 16777216 % 256 ≡ r / 16777216 % 128
       high = omega arith
+
       thirty-one : digits 31 r ≡ digits 8 x ++ (digits 8 y ++ (digits 8 z ++ digits 7 (r / 16777216)))
       thirty-one =
           digits-add 8 23 r
@@ -181,6 +189,7 @@ module _ (l : List ℕ) (whole : length l ≡ 70) (bytes : Bytes l) where
           (ap (digits 15) (div-div-eq-div-mul r 256 256)
           ∙ digits-add 8 7 (r / 65536)
           ∙ ap₂ _++_ (sym (digits-mod 8 (r / 65536))) (ap (digits 7) (div-div-eq-div-mul r 65536 256))))
+
       bits : dataOf (places l) ++ digits 31 r ≡ bitsOf p ++ (digits 7 (r / 16777216) ++ [])
       bits =
           ap₂ _++_ dataOf-line thirty-one

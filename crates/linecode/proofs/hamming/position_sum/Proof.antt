@@ -59,14 +59,15 @@ loop-again c =
     let w = protected (places l) in
     let in-rule : here .i < length rule = omega (arith, length-positions) in
     let in-w : here .i < length w = omega (arith, length-protected l (here .inv .1), protected-is) in
-    let place = protected-bit l (here .inv .1) (here .i) (omega arith) in
-    (omega arith,
-    here .inv .1,
-    here .inv .2,
-    ⊎-elim
-    (λ t. sum-set rule w (here .i) (here .sum) in-rule in-w _ _ _ (here .inv .2) (here .inv .3) (place ∙ eq-eqb _ 1 (t .0 .taken)) (t .1))
-    (λ t. sum-clear rule w (here .i) (here .sum) in-rule in-w _ _ (here .inv .3) (place ∙ ne-eqb _ 1 (t .0 .left)) (t .1))
-    (c .if1 .came))
+    let place = protected-bit l (here .inv .1) (here .i) (omega arith) in (
+      omega arith,
+      here .inv .1,
+      here .inv .2,
+      ⊎-elim
+          (λ t. sum-set rule w (here .i) (here .sum) in-rule in-w _ _ _ (here .inv .2) (here .inv .3) (place ∙ eq-eqb _ 1 (t .0 .taken)) (t .1))
+          (λ t. sum-clear rule w (here .i) (here .sum) in-rule in-w _ _ (here .inv .3) (place ∙ ne-eqb _ 1 (t .0 .left)) (t .1))
+          (c .if1 .came),
+    )
 
 returns : tie.Need-returns Inv-loop μ-loop
 returns c =

@@ -34,10 +34,11 @@ loop-less c = omega arith
 
 loop-again : tie.Need-loop-again Inv-loop μ-loop
 loop-again c =
-    let here = c .before .before .loop in
-    (omega arith,
-    here .inv .1,
-    copy-step (c .before .before .before .before .args .s .now) (here .line) (here .i) (omega arith) (omega arith) (here .inv .2))
+    let here = c .before .before .loop in (
+      omega arith,
+      here .inv .1,
+      copy-step (c .before .before .before .before .args .s .now) (here .line) (here .i) (omega arith) (omega arith) (here .inv .2),
+    )
 
 returns : tie.Need-returns Inv-loop μ-loop
 returns c =

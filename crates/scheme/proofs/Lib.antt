@@ -1,0 +1,17 @@
+-- Laws of the SuDoku steps, over any list of groups: accepted lines stay (Stays), the passes (Passes), demand 3 (ExactReturn,
+-- NotAlike), and what these rest on.
+pub mod Lists
+pub mod Words
+pub mod Sums
+pub mod Written
+pub mod Grows
+pub mod Steps
+pub mod Passes
+pub mod Stays
+pub mod Width
+pub mod Faithful
+pub mod Mends
+pub mod Pair
+pub mod ExactReturn
+pub mod NotAlike
+pub mod Example

@@ -1,0 +1,55 @@
+-- Membership in what a test selects, and rising lists.
+use mathlib.Core.Path.{_≡_, refl, sym, ap, _∙_}
+use mathlib.Core.Logic.{inl, inr}
+use mathlib.Core.Bool.{Bool, true, false, cond}
+use mathlib.Core.List.{List, [], _∷_}
+use Prim.Native.Nat.{ℕ, _≤_}
+use native.Mathlib.Omega.{arith}
+use lib.ListN.{length}
+use Rattle.scheme.specs.Visit.{select}
+use Rattle.scheme.specs.Demand3.{_∈_, Rising}
+
+module _ {A : Type 0} (test : A → Bool) where
+  -- what is selected was there and passes the test
+  pub selected : (l : List A) (a : A) → a ∈ select test l → (a ∈ l) × (test a ≡ true)
+  selected [] a h = absurd h
+  selected (b ∷ l) a h = go (test b) refl h (selected l a)
+    where
+      go : (t : Bool) → test b ≡ t → a ∈ cond t (b ∷ select test l) (select test l)
+          → (a ∈ select test l → (a ∈ l) × (test a ≡ true)) → (a ∈ (b ∷ l)) × (test a ≡ true)
+      go true e (inl p) rest = (inl p, ap test p ∙ e)
+      go true e (inr q) rest = (inr (rest q .0), rest q .1)
+      go false e q rest = (inr (rest q .0), rest q .1)
+
+  -- what was there and passes the test is selected
+  pub selects : (l : List A) (a : A) → a ∈ l → test a ≡ true → a ∈ select test l
+  selects [] a h e = absurd h
+  selects (b ∷ l) a (inl p) e = rw (sym (ap test p) ∙ e) (inl p)
+  selects (b ∷ l) a (inr q) e = go (test b) (selects l a q e)
+    where
+      go : (t : Bool) → a ∈ select test l → a ∈ cond t (b ∷ select test l) (select test l)
+      go true r = inr r
+      go false r = r
+
+pub rising-select : (test : ℕ → Bool) (ns : List ℕ) → Rising ns → Rising (select test ns)
+rising-select test [] r = tt
+rising-select test (n ∷ ns) r = go (test n) (rising-select test ns (r .1))
+  where
+    go : (t : Bool) → Rising (select test ns) → Rising (cond t (n ∷ select test ns) (select test ns))
+    go true q = (λ m i. r .0 m (selected test ns m i .0), q)
+    go false q = q
+
+-- a rising list whose every number is n
+pub only-one : (n : ℕ) (ns : List ℕ) → Rising ns → n ∈ ns → ((m : ℕ) → m ∈ ns → m ≡ n) → ns ≡ n ∷ []
+only-one n [] r h all = absurd h
+only-one n (k ∷ []) r h all = rw (all k (inl refl))
+only-one n (k ∷ j ∷ ns) r h all =
+    let z : ⊥ = omega (arith, r .0 j (inl refl), all k (inl refl), all j (inr (inl refl))) in absurd z
+
+-- two different members
+pub at-least-two : (n m : ℕ) (ns : List ℕ) → n ∈ ns → m ∈ ns → (n ≡ m → ⊥) → 2 ≤ length ns
+at-least-two n m [] h i d = absurd h
+at-least-two n m (k ∷ []) (inl p) (inl q) d = absurd (d (p ∙ sym q))
+at-least-two n m (k ∷ []) (inl p) (inr q) d = absurd q
+at-least-two n m (k ∷ []) (inr p) i d = absurd p
+at-least-two n m (k ∷ j ∷ ns) h i d = omega arith

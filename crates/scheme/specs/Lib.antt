@@ -1,0 +1,5 @@
+-- The SuDoku steps as document 01 makes them exact: read Layer, then Visit, then Repair, then Demand3.
+pub mod Layer
+pub mod Visit
+pub mod Repair
+pub mod Demand3
