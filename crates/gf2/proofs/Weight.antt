@@ -81,6 +81,12 @@ drop-flip (suc n) i [] h = refl
 drop-flip (suc n) zero (a ∷ x) h = refl
 drop-flip (suc n) (suc i) (a ∷ x) h = drop-flip n i x (le-of-suc-le-suc h)
 
+pub drop-flip-add : (n i : ℕ) (x : Word) → drop n (flip (n + i) x) ≡ flip i (drop n x)
+drop-flip-add zero i x = ap (λ (j : ℕ). flip j x) (zero-add i)
+drop-flip-add (suc n) i [] = refl
+drop-flip-add (suc n) i (a ∷ x) =
+    ap (λ (j : ℕ). drop (suc n) (flip j (a ∷ x))) (suc-add n i) ∙ drop-flip-add n i x
+
 pub flip-append : (i : ℕ) (x y : Word) → i < length x → flip i (x ++ y) ≡ flip i x ++ y
 flip-append i [] y h = absurd (not-suc-le-zero h)
 flip-append zero (a ∷ x) y h = refl

@@ -4,3 +4,5 @@ pub mod Line
 pub mod Stores
 pub mod Loading
 pub mod Positions
+pub mod Syndrome
+pub mod CrcTable

@@ -2,7 +2,7 @@
 use mathlib.Core.Path.{_≡_, refl, sym, ap, ap₂, _∙_, subst}
 use mathlib.Core.Bool.{Bool, true, false}
 use mathlib.Core.List.{List, [], _∷_, _++_, append-nil, append-assoc}
-use Prim.Native.Nat.{ℕ, zero, suc, _+_, _*_, _/_, _%_, _^_, _≤_, _<_}
+use Prim.Native.Nat.{ℕ, zero, suc, _+_, _-_, _*_, _/_, _%_, _^_, _≤_, _<_}
 use native.Mathlib.Nat.{mod-eq-of-lt}
 use native.Mathlib.Omega.{arith}
 use lib.Bits.{bitXor}
@@ -12,7 +12,7 @@ use Rattle.gf2.specs.Word.{Word, _⊕_, flip, digits, number}
 use Rattle.gf2.specs.Check.{bit}
 use Rattle.gf2.proofs.Xor.{xor-append, take-xor, drop-xor}
 use Rattle.gf2.proofs.Digits.{length-digits, number-digits, number-small, digits-number, digits-add, number-lt}
-use Rattle.gf2.proofs.Weight.{take-flip, drop-flip, flip-append, flip-append-add, flip-past, length-flip}
+use Rattle.gf2.proofs.Weight.{take-flip, drop-flip, drop-flip-add, flip-append, flip-append-add, flip-past, length-flip}
 use Rattle.linecode.specs.Places.{dataPlaces, protectedPlaces, hammingPlaces, linePlaces, lineBytes, bitsOf, bytesOf, places, lineOf}
 use Rattle.linecode.specs.Code.{protected, dataOf, storedCrc, storedHamming}
 use Rattle.linecode.proofs.Bytes.{Bytes, bytes-take, byte-at, length-bitsOf, bitsOf-append, take-bitsOf, bytesOf-append, bitsOf-bytesOf, bytes-bytesOf, length-bytesOf, xorBytes, bitsOf-xor, length-xorBytes, flip-bitsOf, getD-bitsOf}
@@ -223,10 +223,26 @@ module _ (l : List ℕ) (whole : length l ≡ 70) where
       ∙ sym (flip-append i (take protectedPlaces (bitsOf l)) (take hammingPlaces (drop (suc protectedPlaces) (bitsOf l)))
       (omega (arith, front-length, protected-is)))
 
-  pub flip-hamming : (k : ℕ) → k < 10
-      → places (set l ((543 + k + 1) / 8) (bitXor (getD l ((543 + k + 1) / 8) 0) (2 ^ ((543 + k + 1) % 8)))) ≡ flip (543 + k) (places l)
+  pub flip-hamming : (i : ℕ) → 543 ≤ i → i < 553
+      → places (set l ((i + 1) / 8) (bitXor (getD l ((i + 1) / 8) 0) (2 ^ ((i + 1) % 8)))) ≡ flip i (places l)
   unfolding places
-  flip-hamming k h = ?
+  flip-hamming i h j =
+      ap (λ (w : Word). take protectedPlaces w ++ take hammingPlaces (drop (suc protectedPlaces) w)) (turned (i + 1) (omega arith))
+      ∙ ap₂ _++_ front (ap (take hammingPlaces) back ∙ take-flip hammingPlaces (i - 543) (drop (suc protectedPlaces) (bitsOf l)))
+      ∙ sym (flip-append-add (i - 543) (take protectedPlaces (bitsOf l)) (take hammingPlaces (drop (suc protectedPlaces) (bitsOf l))))
+      ∙ ap (λ (n : ℕ). flip n (take protectedPlaces (bitsOf l) ++ take hammingPlaces (drop (suc protectedPlaces) (bitsOf l)))) place
+    where
+      front : take protectedPlaces (flip (i + 1) (bitsOf l)) ≡ take protectedPlaces (bitsOf l)
+      front =
+          take-flip protectedPlaces (i + 1) (bitsOf l)
+          ∙ flip-past (i + 1) (take protectedPlaces (bitsOf l)) (omega (arith, front-length, protected-is))
+      back : drop (suc protectedPlaces) (flip (i + 1) (bitsOf l)) ≡ flip (i - 543) (drop (suc protectedPlaces) (bitsOf l))
+      back =
+          let e : i + 1 ≡ suc protectedPlaces + (i - 543) = omega (arith, protected-is) in
+          ap (λ (n : ℕ). drop (suc protectedPlaces) (flip n (bitsOf l))) e
+          ∙ drop-flip-add (suc protectedPlaces) (i - 543) (bitsOf l)
+      place : length (take protectedPlaces (bitsOf l)) + (i - 543) ≡ i
+      place = omega (arith, front-length, protected-is)
 
   pub flip-none : (i : ℕ) → 553 ≤ i → places l ≡ flip i (places l)
   flip-none i h = sym (flip-past i (places l) (omega (arith, length-places l whole, places-is)))

@@ -40,11 +40,11 @@ unfolding positions
 position-last = refl
 
 -- ---- a sum of columns that are below 2^k is below 2^k
-abbrev allBelow : ℕ → List ℕ → Bool
+abbrev pub allBelow : ℕ → List ℕ → Bool
 allBelow n [] = true
 allBelow n (c ∷ cs) = ltb c n && allBelow n cs
 
-and-parts : (a b : Bool) → T (a && b) → T a × T b
+pub and-parts : (a b : Bool) → T (a && b) → T a × T b
 and-parts true b t = (tt, t)
 and-parts false b t = absurd t
 
@@ -105,3 +105,7 @@ module _ (cs : List ℕ) (w : Word) (i s : ℕ) (in-cs : i < length cs) (in-w : 
 pub sum-all : (cs : List ℕ) (w : Word) (i s all : ℕ) → length cs ≤ i → all ≡ bitXor s (columnSum (drop i cs) (drop i w)) → s ≡ all
 sum-all cs w i s all h q =
     sym (q ∙ ap (λ (l : List ℕ). bitXor s (columnSum l (drop i w))) (drop-of-length-le cs h) ∙ xor-zero-r s)
+
+pub withHamming-digits : (p : Word) → withHamming p ≡ p ++ digits 10 (columnSum positions p)
+unfolding withHamming
+withHamming-digits p = ap (λ (h : Word). p ++ h) (hamming-digits p)

@@ -1,55 +1,53 @@
-use borrow.Author.Needs.{needs}
+-- `linecode::crc::of_data` meets its contract. After i turns the register has taken in the first i bytes.
+use mathlib.Core.Path.{_≡_, refl}
+use Prim.Native.Nat.{ℕ, _-_}
 use native.Mathlib.Omega.{arith}
+use borrow.Author.Needs.{needs}
+use Rattle.gf2.specs.Generator.{generator, generatorPolynomial}
+use Rattle.linecode.proofs.Bytes.{array-length, array-bytes, byte-at}
+use Rattle.linecode.proofs.CrcTable.{stepTable, Feeding, feed-start, feed-next, feed-end}
 use Rattle.linecode.proofs.crc.of_data.Statement.{statement}
 use Rattle.linecode.proofs.crc.of_data.Tie as tie
-use Rattle.linecode.proofs.crc.of_data.Reads as reads
-use Rattle.linecode.proofs.crc.of_data.Lts as lts
 
 abbrev Inv-loop : tie.InvT-loop
-Inv-loop line steps r₀ i₀ r i = ?
+Inv-loop line steps r₀ i₀ r i = (steps ≡ stepTable) × Feeding line r i
 
 abbrev μ-loop : tie.MeasureT-loop
-μ-loop line steps r₀ i₀ r i = ?
+μ-loop line steps r₀ i₀ r i = 64 - i
 
--- src/crc.rt:276:5
 loop-holds : tie.Need-loop-holds Inv-loop μ-loop
-loop-holds c = ?
+unfolding stepTable generator generatorPolynomial
+loop-holds c = (refl, feed-start (c .args .t1) (array-length 70 (c .args .t1) _ (c .good .0)) (array-bytes 70 (c .args .t1) _ (c .good .0)))
 
--- src/crc.rt:277:25
 array-read-low : tie.Need-array-read-low Inv-loop μ-loop
-array-read-low c = ?
+array-read-low c = omega arith
 
--- src/crc.rt:277:25
 cast-low : tie.Need-cast-low Inv-loop μ-loop
-cast-low c = ?
+cast-low c = omega (arith, byte-at (c .before .before .args .t1) (c .before .loop .i) (c .before .loop .inv .1 .bytes))
 
--- src/crc.rt:278:19
 cast-r : tie.Need-cast-r Inv-loop μ-loop
-cast-r c = ?
+cast-r c = omega arith
 
--- src/crc.rt:278:13
 mul-r : tie.Need-mul-r Inv-loop μ-loop
-mul-r c = ?
+mul-r c = omega arith
 
--- src/crc.rt:278:13
 array-read-r : tie.Need-array-read-r Inv-loop μ-loop
-array-read-r c = ?
+array-read-r c = omega arith
 
--- src/crc.rt:279:9
 add-i : tie.Need-add-i Inv-loop μ-loop
-add-i c = ?
+add-i c = omega arith
 
--- src/crc.rt:276:5
 loop-less : tie.Need-loop-less Inv-loop μ-loop
-loop-less c = ?
+loop-less c = omega arith
 
--- src/crc.rt:276:5
 loop-again : tie.Need-loop-again Inv-loop μ-loop
-loop-again c = ?
+loop-again c =
+    let here = c .before .loop in
+    (here .inv .0, feed-next (c .before .before .args .t1) _ (here .r) (here .i) (here .inv .0) (c .loop-test .taken) (here .inv .1))
 
--- src/crc.rt:270:1
 returns : tie.Need-returns Inv-loop μ-loop
-returns c = ?
+returns c =
+    feed-end (c .before .before .args .t1) (c .before .loop .r) (c .before .loop .i) (c .loop-test .left) (c .before .loop .inv .1)
 
 pub of-data-spec : {M : Type 1} → statement M
 of-data-spec =

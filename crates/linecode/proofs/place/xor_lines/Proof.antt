@@ -3,10 +3,11 @@ use mathlib.Core.Path.{_≡_, refl, sym, ap, _∙_}
 use Prim.Native.Nat.{ℕ, _+_, _-_, _≤_, _<_}
 use native.Mathlib.Omega.{arith}
 use borrow.Author.Needs.{needs}
+use mathlib.Core.List.{List}
 use lib.ListN.{length}
-use Rattle.linecode.specs.Places.{lineOf}
-use Rattle.linecode.proofs.Bytes.{array-length, xorFirst, xorFirst-turn}
-use Rattle.linecode.proofs.Line.{places-xorFirst}
+use Rattle.linecode.specs.Places.{places, lineOf}
+use Rattle.linecode.proofs.Bytes.{array-length, xorFirst, xorFirst-turn, xorFirst-all}
+use Rattle.linecode.proofs.Line.{places-xor}
 use Rattle.linecode.proofs.place.xor_lines.Statement.{statement}
 use Rattle.linecode.proofs.place.xor_lines.Tie as tie
 
@@ -17,7 +18,7 @@ abbrev μ-loop : tie.MeasureT-loop
 μ-loop b sum₀ i₀ sum i = 70 - i
 
 loop-holds : tie.Need-loop-holds Inv-loop μ-loop
-loop-holds c = (omega arith, array-length 70 (c .args .a) _ (c .good .0), ?, refl)
+loop-holds c = (omega arith, array-length 70 (c .args .a) _ (c .good .0), array-length 70 (c .args .t2) _ (c .good .1 .0), refl)
 
 array-read-sum : tie.Need-array-read-sum Inv-loop μ-loop
 array-read-sum c = omega arith
@@ -35,13 +36,26 @@ loop-less : tie.Need-loop-less Inv-loop μ-loop
 loop-less c = omega arith
 
 loop-again : tie.Need-loop-again Inv-loop μ-loop
-loop-again c = ?
+loop-again c =
+    let here = c .before .loop in
+    (omega arith, here .inv .1, here .inv .2, xorFirst-turn (here .i) _ _ (here .sum) (omega arith) (omega arith) (here .inv .3))
 
 clear-spare-requires : tie.Need-clear-spare-requires Inv-loop μ-loop
 clear-spare-requires c κs = search needs
 
 returns : tie.Need-returns Inv-loop μ-loop
-returns c = ?
+returns c =
+    let here = c .before .before .loop in
+    let a = c .before .before .before .args .a in
+    let b = c .before .before .before .args .t2 in
+    c .clear-spare .ensures
+    ∙ ap (λ (l : List ℕ). lineOf (places l))
+    (here .inv .3 ∙ ap (λ (i : ℕ). xorFirst i a b) (last (here .i) (here .inv .0) (c .before .loop-test .left))
+    ∙ xorFirst-all 70 a b (here .inv .1) (here .inv .2))
+    ∙ ap lineOf (places-xor a b (here .inv .1) (here .inv .2))
+  where
+    last : (i : ℕ) → i ≤ 70 → 70 ≤ i → i ≡ 70
+    last i h k = omega arith
 
 pub xor-lines-spec : {M : Type 1} → statement M
 xor-lines-spec =
