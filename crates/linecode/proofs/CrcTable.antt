@@ -19,7 +19,7 @@ use Rattle.gf2.proofs.Register.{feed, feed-append, feed-crc, feed-digits}
 use Rattle.linecode.specs.Places.{bitsOf, places}
 use Rattle.linecode.specs.Code.{dataOf, upFrom}
 use Rattle.linecode.proofs.Bytes.{Bytes, byte-at}
-use Rattle.linecode.proofs.Stores.{dataOf-line}
+use Rattle.linecode.proofs.Line.{dataOf-line}
 
 pub length-generator : length generator ≡ 31
 unfolding generator
@@ -99,16 +99,18 @@ feed-next l table r i t h f =
       bytes = f .bytes;
       small = xor-lt 31 (getD stepTable (bitXor r (getD l i 0) % 256) 0) (r / 256) (step-lt (bitXor r (getD l i 0) % 256) (low (bitXor r (getD l i 0)))) (less r (f .small));
       same =
-        f .same
-        ∙ ap (λ (p : List ℕ). feed generator (digits 31 r) (bitsOf p)) left
-        ∙ feed-append generator (digits 31 r) (digits 8 (getD l i 0)) (bitsOf (drop (i + 1) (take 64 l)))
-        ∙ ap (λ (w : Word). feed generator w (bitsOf (drop (i + 1) (take 64 l)))) (byte-step r (getD l i 0) (f .small));
+          f .same
+          ∙ ap (λ (p : List ℕ). feed generator (digits 31 r) (bitsOf p)) left
+          ∙ feed-append generator (digits 31 r) (digits 8 (getD l i 0)) (bitsOf (drop (i + 1) (take 64 l)))
+          ∙ ap (λ (w : Word). feed generator w (bitsOf (drop (i + 1) (take 64 l)))) (byte-step r (getD l i 0) (f .small));
     })
   where
     low : (n : ℕ) → n % 256 < 256
     low n = omega arith
+
     less : (r : ℕ) → r < 2 ^ 31 → r / 256 < 2 ^ 31
     less r k = omega arith
+
     left : drop i (take 64 l) ≡ getD l i 0 ∷ drop (i + 1) (take 64 l)
     left =
         drop-cons (take 64 l) i 0 (omega (arith, length-take-le 64 l (omega (arith, f .whole))))
@@ -119,7 +121,7 @@ feed-end l r i h f =
     sym (number-small 31 r (f .small))
     ∙ ap number
     (sym (sym (feed-crc generator (dataOf (places l)) 30 length-generator)
-    ∙ ap (feed generator (zeros (length generator))) (dataOf-line l (f .whole) (f .bytes))
+    ∙ ap (feed generator (zeros (length generator))) (dataOf-line l (f .whole))
     ∙ f .same
     ∙ ap (λ (p : List ℕ). feed generator (digits 31 r) (bitsOf p))
     (drop-of-length-le (take 64 l) {i = i} (omega (arith, length-take-le 64 l (omega (arith, f .whole)))))))

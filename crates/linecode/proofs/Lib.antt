@@ -6,3 +6,6 @@ pub mod Loading
 pub mod Positions
 pub mod Syndrome
 pub mod CrcTable
+pub mod Codeword
+pub mod ReadAlone
+pub mod Entry

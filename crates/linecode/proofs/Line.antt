@@ -6,9 +6,9 @@ use Prim.Native.Nat.{ℕ, zero, suc, _+_, _-_, _*_, _/_, _%_, _^_, _≤_, _<_}
 use native.Mathlib.Nat.{mod-eq-of-lt}
 use native.Mathlib.Omega.{arith}
 use lib.Bits.{bitXor}
-use lib.ListN.{length, take, drop, getD, set, length-append, length-take, length-drop, take-append-drop, drop-of-length-le, length-set}
-use lib.Seq.{take-all, take-at, drop-at, drop-cons, take-append-add, drop-append-add, sets, sets-eq, set-getD, length-take-le, append-snoc, getD-take}
-use Rattle.gf2.specs.Word.{Word, _⊕_, flip, digits, number}
+use lib.ListN.{length, take, drop, getD, set, length-append, length-take, length-drop, take-append-drop, drop-of-length-le, length-replicate}
+use lib.Seq.{take-all, take-at, drop-at, drop-cons, take-append-add, drop-append-add, take-append-le, take-take, length-take-le, append-snoc, getD-take}
+use Rattle.gf2.specs.Word.{Word, _⊕_, zeros, flip, digits, number}
 use Rattle.gf2.specs.Check.{bit}
 use Rattle.gf2.proofs.Xor.{xor-append, take-xor, drop-xor}
 use Rattle.gf2.proofs.Digits.{length-digits, number-digits, number-small, digits-number, digits-add, number-lt}
@@ -184,6 +184,20 @@ module _ (l : List ℕ) (whole : length l ≡ 70) where
       parts : (i : ℕ) → i ≡ 8 * (i / 8) + i % 8
       parts i = omega arith
 
+  -- the data are bytes 0 to 63
+  pub sixty-four : take 64 (take 67 l) ≡ take 64 l
+  sixty-four = take-take 64 67 l (omega arith)
+
+  pub dataOf-line : dataOf (places l) ≡ bitsOf (take 64 l)
+  unfolding dataOf
+  dataOf-line =
+      ap (take dataPlaces) (places-line ∙ append-assoc (bitsOf (take 67 l)) (crcEnd l) (hammingEnd l))
+      ∙ take-append-le dataPlaces (bitsOf (take 67 l)) (crcEnd l ++ hammingEnd l)
+      (omega (arith, data-is, length-bitsOf (take 67 l), length-front))
+      ∙ ap (λ (n : ℕ). take n (bitsOf (take 67 l))) data-is
+      ∙ take-bitsOf 64 (take 67 l)
+      ∙ ap bitsOf sixty-four
+
 -- ---- exclusive or of lines
 pub places-xor : (a b : List ℕ) → length a ≡ 70 → length b ≡ 70 → places (xorBytes a b) ≡ places a ⊕ places b
 unfolding places
@@ -236,13 +250,105 @@ module _ (l : List ℕ) (whole : length l ≡ 70) where
       front =
           take-flip protectedPlaces (i + 1) (bitsOf l)
           ∙ flip-past (i + 1) (take protectedPlaces (bitsOf l)) (omega (arith, front-length, protected-is))
+
       back : drop (suc protectedPlaces) (flip (i + 1) (bitsOf l)) ≡ flip (i - 543) (drop (suc protectedPlaces) (bitsOf l))
       back =
           let e : i + 1 ≡ suc protectedPlaces + (i - 543) = omega (arith, protected-is) in
           ap (λ (n : ℕ). drop (suc protectedPlaces) (flip n (bitsOf l))) e
           ∙ drop-flip-add (suc protectedPlaces) (i - 543) (bitsOf l)
+
       place : length (take protectedPlaces (bitsOf l)) + (i - 543) ≡ i
       place = omega (arith, front-length, protected-is)
 
   pub flip-none : (i : ℕ) → 553 ≤ i → places l ≡ flip i (places l)
   flip-none i h = sym (flip-past i (places l) (omega (arith, length-places l whole, places-is)))
+
+-- ---- lines made from places
+number-zeros : (j k : ℕ) → number (take j (zeros k)) ≡ 0
+number-zeros zero k = refl
+number-zeros (suc j) zero = refl
+number-zeros (suc j) (suc k) = ap (λ (n : ℕ). 2 * n) (number-zeros j k)
+
+take-pad : (j k : ℕ) (x : Word) → number (take j (x ++ zeros k)) ≡ number (take j x)
+take-pad zero k x = refl
+take-pad (suc j) k [] = number-zeros (suc j) k
+take-pad (suc j) k (false ∷ x) = ap (λ (n : ℕ). 2 * n) (take-pad j k x)
+take-pad (suc j) k (true ∷ x) = ap (λ (n : ℕ). suc (2 * n)) (take-pad j k x)
+
+drop-pad : (j k : ℕ) (x : Word) → (m : ℕ) × (drop j (x ++ zeros k) ≡ drop j x ++ zeros m)
+drop-pad zero k x = (k, refl)
+drop-pad (suc j) zero [] = (zero, refl)
+drop-pad (suc j) (suc k) [] = let p = drop-pad j k [] in (p .0, p .1 ∙ ap (λ (w : Word). w ++ zeros (p .0)) (take-nil' j))
+  where
+    take-nil' : (j : ℕ) → drop {A = Bool} j [] ≡ []
+    take-nil' zero = refl
+    take-nil' (suc j) = refl
+drop-pad (suc j) k (b ∷ x) = drop-pad j k x
+
+-- bits that are wanting are 0
+bytesOf-pad : (n k : ℕ) (x : Word) → bytesOf n (x ++ zeros k) ≡ bytesOf n x
+bytesOf-pad zero k x = refl
+bytesOf-pad (suc n) k x =
+    let p = drop-pad 8 k x in
+    ap₂ (λ (a : ℕ) (l : List ℕ). a ∷ l) (take-pad 8 k x) (ap (bytesOf n) (p .1) ∙ bytesOf-pad n (p .0) (drop 8 x))
+
+pub length-lineOf : (w : Word) → length (lineOf w) ≡ 70
+unfolding lineOf
+length-lineOf w = length-bytesOf lineBytes (take protectedPlaces w ++ (false ∷ drop protectedPlaces w)) ∙ bytes-is
+
+pub bytes-lineOf : (w : Word) → Bytes (lineOf w)
+unfolding lineOf
+bytes-lineOf w = bytes-bytesOf lineBytes (take protectedPlaces w ++ (false ∷ drop protectedPlaces w))
+
+module _ (w : Word) (least : 543 ≤ length w) (most : length w ≤ 553) where
+  front : Word
+  front = take protectedPlaces w
+
+  length-front-w : length front ≡ protectedPlaces
+  unfolding front
+  length-front-w = length-take-le protectedPlaces w (omega (arith, protected-is))
+
+  bits-lineOf : bitsOf (lineOf w) ≡ front ++ (false ∷ (drop protectedPlaces w ++ zeros (559 - length w)))
+  unfolding lineOf front
+  bits-lineOf =
+      ap bitsOf (sym (bytesOf-pad lineBytes (559 - length w) x))
+      ∙ bitsOf-bytesOf lineBytes (x ++ zeros (559 - length w)) full
+      ∙ append-assoc front (false ∷ drop protectedPlaces w) (zeros (559 - length w))
+    where
+      x : Word
+      x = front ++ (false ∷ drop protectedPlaces w)
+
+      full : length (x ++ zeros (559 - length w)) ≡ 8 * lineBytes
+      full =
+          length-append x (zeros (559 - length w))
+          ∙ ap₂ _+_ (length-append front (false ∷ drop protectedPlaces w)) (length-replicate (559 - length w) false)
+          ∙ omega (arith, length-front-w, length-drop protectedPlaces w, protected-is, bytes-is)
+
+  -- the protected places come back
+  pub protected-lineOf : protected (places (lineOf w)) ≡ take protectedPlaces w
+  unfolding front
+  protected-lineOf =
+      protected-bits (lineOf w) (length-lineOf w)
+      ∙ ap (take protectedPlaces) bits-lineOf
+      ∙ take-at front (false ∷ (drop protectedPlaces w ++ zeros (559 - length w))) protectedPlaces length-front-w
+
+  -- and so do all places, where there are 553
+  pub places-lineOf : length w ≡ linePlaces → places (lineOf w) ≡ w
+  unfolding places front
+  places-lineOf e =
+      ap (λ (x : Word). take protectedPlaces x ++ take hammingPlaces (drop (suc protectedPlaces) x)) bits-lineOf
+      ∙ ap₂ _++_ (take-at front (false ∷ (h ++ zeros (559 - length w))) protectedPlaces length-front-w)
+      (ap (take hammingPlaces) back ∙ take-at h (zeros (559 - length w)) hammingPlaces ten)
+      ∙ take-append-drop protectedPlaces w
+    where
+      h : Word
+      h = drop protectedPlaces w
+
+      ten : length h ≡ hammingPlaces
+      ten = length-drop protectedPlaces w ∙ omega (arith, e, protected-is, places-is, hamming-is)
+
+      back : drop (suc protectedPlaces) (front ++ (false ∷ (h ++ zeros (559 - length w)))) ≡ h ++ zeros (559 - length w)
+      back =
+          ap (drop (suc protectedPlaces)) (sym (append-snoc front false (h ++ zeros (559 - length w))))
+          ∙ drop-at (front ++ (false ∷ [])) (h ++ zeros (559 - length w)) (suc protectedPlaces)
+          (length-append front (false ∷ []) ∙ omega (arith, length-front-w))

@@ -6,10 +6,11 @@ use native.Mathlib.Nat.{zero-add, suc-sub-suc, sub-zero}
 use native.Mathlib.Numerals.{add-one}
 use native.Mathlib.Omega.{arith}
 use native.Mathlib.Decide.{decLe}
-use lib.ListN.{length, take, drop, getD, set, replicate, length-replicate, drop-of-length-le}
-use lib.Seq.{take-all, take-append-le, take-append-add, paste, paste-zero, paste-suc}
-use Rattle.linecode.specs.Places.{lineBytes, loaded}
-use Rattle.linecode.proofs.Line.{bytes-is}
+use lib.ListN.{length, take, drop, getD, set, replicate, length-append, length-take, length-replicate}
+use lib.Seq.{take-all, take-append-le, take-append-add, take-take, take-at, paste, paste-zero, paste-suc}
+use Rattle.linecode.specs.Places.{lineBytes, loaded, bitsOf, places}
+use Rattle.linecode.specs.Code.{dataOf}
+use Rattle.linecode.proofs.Line.{bytes-is, dataOf-line}
 
 abbrev pub blank : List ℕ
 blank = replicate 70 0
@@ -58,3 +59,18 @@ copied s n e = go (decLe 70 (length s))
         ∙ sym (seventy ∙ ap (λ (j : ℕ). take j (s ++ blank)) k
         ∙ take-append-add s blank (70 - length s)
         ∙ ap (λ (l : List ℕ). s ++ l) (take-replicate (70 - length s) 70 (omega arith)))
+
+-- the data of a line loaded from 64 bytes
+pub data-loaded : (s l : List ℕ) → length s ≡ 64 → l ≡ loaded s → dataOf (places l) ≡ bitsOf s
+unfolding loaded
+data-loaded s l e q =
+    dataOf-line l (ap length q ∙ length-take lineBytes (s ++ replicate lineBytes 0) ∙ long)
+    ∙ ap (λ (x : List ℕ). bitsOf (take 64 x)) (q ∙ ap (λ (k : ℕ). take k (s ++ replicate k 0)) bytes-is)
+    ∙ ap bitsOf (take-take 64 70 (s ++ blank) (omega arith) ∙ take-at s blank 64 e)
+  where
+    long : min lineBytes (length (s ++ replicate lineBytes 0)) ≡ 70
+    long = omega (arith, length-append s (replicate lineBytes 0), length-replicate {A = ℕ} lineBytes 0, bytes-is)
+
+pub loaded-whole : (s : List ℕ) → length s ≡ 70 → loaded s ≡ s
+unfolding loaded
+loaded-whole s e = take-at s (replicate lineBytes 0) lineBytes (e ∙ sym bytes-is)

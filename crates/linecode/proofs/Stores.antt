@@ -14,7 +14,7 @@ use Rattle.gf2.proofs.Digits.{length-digits, number-digits, number-small, digit
 use Rattle.linecode.specs.Places.{dataPlaces, protectedPlaces, linePlaces, lineBytes, bitsOf, bytesOf, places, lineOf}
 use Rattle.linecode.specs.Code.{protected, dataOf, storedCrc, storedHamming, withCrc}
 use Rattle.linecode.proofs.Bytes.{Bytes, bytes-take, bytes-append, byte-at, length-bitsOf, bitsOf-append, take-bitsOf}
-use Rattle.linecode.proofs.Line.{protected-is, data-is, split-three, lineOf-bits, crcEnd, hammingEnd, length-crcEnd, length-front, places-line, protected-line, storedHamming-line}
+use Rattle.linecode.proofs.Line.{protected-is, data-is, sixty-four, dataOf-line, split-three, lineOf-bits, crcEnd, hammingEnd, length-crcEnd, length-front, places-line, protected-line, storedHamming-line}
 
 -- three bytes stored from byte 67 on
 store-three : (l : List ℕ) → length l ≡ 70 → (x y z : ℕ) → sets l 67 (x ∷ y ∷ z ∷ []) ≡ take 67 l ++ (x ∷ y ∷ z ∷ [])
@@ -79,19 +79,6 @@ module _ (l : List ℕ) (whole : length l ≡ 70) (bytes : Bytes l) where
           (number-digits 2 (s / 256) ∙ omega arith)
 
   -- ---- the data and the CRC
-  sixty-four : take 64 (take 67 l) ≡ take 64 l
-  sixty-four = take-take 64 67 l (omega arith)
-
-  pub dataOf-line : dataOf (places l) ≡ bitsOf (take 64 l)
-  unfolding dataOf
-  dataOf-line =
-      ap (take dataPlaces) (places-line l whole ∙ append-assoc (bitsOf (take 67 l)) (crcEnd l) (hammingEnd l))
-      ∙ take-append-le dataPlaces (bitsOf (take 67 l)) (crcEnd l ++ hammingEnd l)
-      (omega (arith, data-is, length-bitsOf (take 67 l), length-front l whole))
-      ∙ ap (λ (n : ℕ). take n (bitsOf (take 67 l))) data-is
-      ∙ take-bitsOf 64 (take 67 l)
-      ∙ ap bitsOf sixty-four
-
   length-data : length (bitsOf (take 64 l)) ≡ dataPlaces
   length-data =
       length-bitsOf (take 64 l) ∙ ap (λ (n : ℕ). 8 * n) (length-take-le 64 l (omega arith)) ∙ sym data-is
@@ -99,7 +86,7 @@ module _ (l : List ℕ) (whole : length l ≡ 70) (bytes : Bytes l) where
   front-bytes : take 67 l ≡ take 64 l ++ (getD l 64 0 ∷ getD l 65 0 ∷ getD l 66 0 ∷ [])
   front-bytes =
       split-three 64 (take 67 l) (length-front l whole)
-      ∙ ap (λ (p : List ℕ). p ++ (getD (take 67 l) 64 0 ∷ getD (take 67 l) 65 0 ∷ getD (take 67 l) 66 0 ∷ [])) sixty-four
+      ∙ ap (λ (p : List ℕ). p ++ (getD (take 67 l) 64 0 ∷ getD (take 67 l) 65 0 ∷ getD (take 67 l) 66 0 ∷ [])) (sixty-four l whole)
       ∙ ap (λ (t : List ℕ). take 64 l ++ t)
       (ap₂ (λ (a : ℕ) (t : List ℕ). a ∷ t) (getD-take 67 l 64 0 (omega arith))
       (ap₂ (λ (a b : ℕ). a ∷ b ∷ []) (getD-take 67 l 65 0 (omega arith)) (getD-take 67 l 66 0 (omega arith))))
@@ -127,7 +114,7 @@ module _ (l : List ℕ) (whole : length l ≡ 70) (bytes : Bytes l) where
 
   -- a line's protected places are its data and its stored CRC
   pub protected-parts : protected (places l) ≡ dataOf (places l) ++ storedCrc (places l)
-  protected-parts = protected-crc ∙ sym (ap₂ _++_ dataOf-line storedCrc-bits)
+  protected-parts = protected-crc ∙ sym (ap₂ _++_ (dataOf-line l whole) storedCrc-bits)
 
   pub storedCrc-number : getD l 64 0 + 256 * getD l 65 0 + 65536 * getD l 66 0 + 16777216 * (getD l 67 0 % 128)
       ≡ number (storedCrc (places l))
@@ -192,6 +179,6 @@ module _ (l : List ℕ) (whole : length l ≡ 70) (bytes : Bytes l) where
 
       bits : dataOf (places l) ++ digits 31 r ≡ bitsOf p ++ (digits 7 (r / 16777216) ++ [])
       bits =
-          ap₂ _++_ dataOf-line thirty-one
+          ap₂ _++_ (dataOf-line l whole) thirty-one
           ∙ sym (ap₂ _++_ (bitsOf-append (take 64 l) (x ∷ y ∷ z ∷ [])) (append-nil (digits 7 (r / 16777216)))
           ∙ append-assoc (bitsOf (take 64 l)) (bitsOf (x ∷ y ∷ z ∷ [])) (digits 7 (r / 16777216)))

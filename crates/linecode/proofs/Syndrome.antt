@@ -57,6 +57,7 @@ syndrome-parts w e =
   where
     short : length (drop protectedPlaces w) ≤ 10
     short = omega (arith, length-drop protectedPlaces w, protected-is, places-is, e)
+
     same : length positions ≡ length (take protectedPlaces w)
     same =
         let h : protectedPlaces ≤ length w = omega (arith, protected-is, places-is, e) in
@@ -164,6 +165,7 @@ none-exactly (suc s) e = go (decLe (suc s) 553)
     named : (b : Bool) (k i : ℕ) → cond b (Hamming k) (Protected i) ≡ None → ⊥
     named true k i q = let z : _≡_ {A = ℕ} 0 1 = cc in omega arith
     named false k i q = let z : _≡_ {A = ℕ} 0 1 = cc in omega arith
+
     go : Dec (suc s ≤ 553) → (suc s ≡ 0) ⊎ (553 < suc s)
     go (yes h) =
         absurd (named (eqb (2 ^ logOf (suc s)) (suc s)) (logOf (suc s)) (suc s - logOf (suc s) - 1)
@@ -188,17 +190,20 @@ seek-next s power k h l i =
       positive = omega arith;
       few = omega (arith, less);
       same-log =
-        i .same-log ∙ ap (λ (n : ℕ). reaching n power k s) left
-        ∙ ap (λ (b : Bool). cond b (reaching (10 - (k + 1)) (2 * power) (suc k) s) k) (lt-ltb power s l)
-        ∙ ap (λ (j : ℕ). reaching (10 - (k + 1)) (2 * power) j s) (sym (add-one k));
+          i .same-log ∙ ap (λ (n : ℕ). reaching n power k s) left
+          ∙ ap (λ (b : Bool). cond b (reaching (10 - (k + 1)) (2 * power) (suc k) s) k) (lt-ltb power s l)
+          ∙ ap (λ (j : ℕ). reaching (10 - (k + 1)) (2 * power) j s) (sym (add-one k));
     }
   where
     power-next : (k : ℕ) → 2 ^ (k + 1) ≡ 2 * 2 ^ k
     power-next k = ap (λ (j : ℕ). 2 ^ j) (add-one k) ∙ pow-suc 2 k ∙ mul-comm (2 ^ k) 2
+
     ten : k ≡ 10 → ⊥
     ten e = let p : power ≡ 1024 = i .is-power ∙ ap (λ (j : ℕ). 2 ^ j) e in omega arith
+
     less : k < 10
     less = lt-of-le-ne (i .few) ten
+
     left : 10 - k ≡ suc (10 - (k + 1))
     left = omega (arith, less)
 

@@ -67,20 +67,22 @@ returns-3 c =
 sub-t7 : tie.Need-sub-t7 Inv-loop μ-loop
 sub-t7 c =
     let here = c .before .before .loop in
-    omega
-    (arith,
-    below (c .before .before .before .before .before .args .syndrome) (here .power) (here .k)
-    (c .before .before .before .before .if1 .left) (c .before .before .before .if2 .left)
-    (c .before .loop-test .left) (c .if3 .left) (here .inv))
+    omega (
+      arith,
+      below (c .before .before .before .before .before .args .syndrome) (here .power) (here .k)
+          (c .before .before .before .before .if1 .left) (c .before .before .before .if2 .left)
+          (c .before .loop-test .left) (c .if3 .left) (here .inv),
+    )
 
 sub-t8 : tie.Need-sub-t8 Inv-loop μ-loop
 sub-t8 c =
     let here = c .before .before .loop in
-    omega
-    (arith,
-    below (c .before .before .before .before .before .args .syndrome) (here .power) (here .k)
-    (c .before .before .before .before .if1 .left) (c .before .before .before .if2 .left)
-    (c .before .loop-test .left) (c .if3 .left) (here .inv))
+    omega (
+      arith,
+      below (c .before .before .before .before .before .args .syndrome) (here .power) (here .k)
+          (c .before .before .before .before .if1 .left) (c .before .before .before .if2 .left)
+          (c .before .loop-test .left) (c .if3 .left) (here .inv),
+    )
 
 cast-t9 : tie.Need-cast-t9 Inv-loop μ-loop
 cast-t9 c = omega arith

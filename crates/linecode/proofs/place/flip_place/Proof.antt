@@ -76,10 +76,13 @@ returns c =
   where
     l : List ℕ
     l = c .before .before .args .line
+
     i : ℕ
     i = c .before .before .args .i
+
     whole : length l ≡ 70
     whole = array-length 70 l _ (c .before .before .good .0)
+
     one : (l : List ℕ) (q k : ℕ) → k < 8 → set l q (bitXor (getD l q 0) (1 * 2 ^ k % 2 ^ 8)) ≡ set l q (bitXor (getD l q 0) (2 ^ k))
     one l q k h =
         ap (λ (m : ℕ). set l q (bitXor (getD l q 0) m)) (shl-exact {a = 1} 1 k 8 (omega arith) (omega arith) ∙ single (2 ^ k))

@@ -1,0 +1,150 @@
+-- A line's places and its code: the parts of a line, when it is accepted, and what writing gives.
+use mathlib.Core.Path.{_≡_, refl, sym, ap, ap₂, _∙_, subst}
+use mathlib.Core.Bool.{Bool, true, false, _&&_}
+use mathlib.Core.List.{List, [], _∷_, _++_, append-assoc}
+use Prim.Native.Nat.{ℕ, zero, suc, _+_, _-_, _^_, _≤_, _<_}
+use native.Mathlib.Omega.{arith}
+use lib.Dec.{T, eqb}
+use lib.ListN.{length, take, drop, length-append, length-drop, take-append-drop}
+use lib.Seq.{length-take-le, take-all, take-take, take-at, drop-at}
+use Rattle.gf2.specs.Word.{Word, digits, number, same}
+use Rattle.gf2.specs.Check.{divisible, crc, columnSum}
+use Rattle.gf2.specs.Generator.{generator}
+use Rattle.gf2.proofs.Digits.{length-digits, number-small, number-lt, digits-number}
+use Rattle.gf2.proofs.Same.{same-refl, same-equal, same-append, same-comm, same-number}
+use Rattle.gf2.proofs.Crc.{length-crc, divisible-crc}
+use Rattle.linecode.specs.Places.{dataPlaces, protectedPlaces, linePlaces, places, lineOf}
+use Rattle.linecode.specs.Code.{protected, dataOf, storedCrc, storedHamming, accepted, positions, hamming, withCrc, withHamming, codeword, isCorrect, Correct}
+use Rattle.linecode.proofs.Line.{protected-is, data-is, places-is, protected-lineOf}
+use Rattle.linecode.proofs.Positions.{hamming-digits, position-sum-lt}
+use Rattle.linecode.proofs.CrcTable.{length-generator}
+
+-- ---- the CRC as a number
+pub crc-number-lt : (d : Word) → number (crc generator d) < 2147483648
+crc-number-lt d =
+    subst (λ (k : ℕ). number (crc generator d) < 2 ^ k) (length-crc generator d ∙ length-generator) (number-lt (crc generator d))
+
+pub crc-digits : (d : Word) → digits 31 (number (crc generator d)) ≡ crc generator d
+crc-digits d =
+    ap (λ (k : ℕ). digits k (number (crc generator d))) (sym (length-crc generator d ∙ length-generator))
+    ∙ digits-number (crc generator d)
+
+-- ---- the parts of a line
+module _ (w : Word) (whole : length w ≡ linePlaces) where
+  long : length w ≡ 553
+  long = whole ∙ places-is
+
+  pub length-protected : length (protected w) ≡ protectedPlaces
+  unfolding protected
+  length-protected = length-take-le protectedPlaces w (omega (arith, protected-is, long))
+
+  pub length-dataOf : length (dataOf w) ≡ dataPlaces
+  unfolding dataOf
+  length-dataOf = length-take-le dataPlaces w (omega (arith, data-is, long))
+
+  pub length-storedCrc : length (storedCrc w) ≡ length generator
+  unfolding storedCrc
+  length-storedCrc =
+      length-drop dataPlaces (protected w) ∙ omega (arith, length-protected, data-is, protected-is, length-generator)
+
+  pub length-storedHamming : length (storedHamming w) ≡ 10
+  unfolding storedHamming
+  length-storedHamming = length-drop protectedPlaces w ∙ omega (arith, protected-is, long)
+
+  pub protected-parts : protected w ≡ dataOf w ++ storedCrc w
+  unfolding protected dataOf storedCrc
+  protected-parts =
+      sym (take-append-drop dataPlaces (protected w))
+      ∙ ap (λ (d : Word). d ++ storedCrc w) (take-take dataPlaces protectedPlaces w (omega (arith, data-is, protected-is)))
+
+  pub line-parts : w ≡ protected w ++ storedHamming w
+  unfolding protected storedHamming
+  line-parts = sym (take-append-drop protectedPlaces w)
+
+  -- the word is divisible exactly where the CRC of the data is the stored one
+  pub accepted-crc : accepted w ≡ same (crc generator (dataOf w)) (storedCrc w)
+  unfolding accepted
+  accepted-crc = ap (divisible generator) protected-parts ∙ divisible-crc generator (dataOf w) (storedCrc w) length-storedCrc
+
+  pub accepted-written : T (accepted w) → protected w ≡ withCrc (dataOf w)
+  unfolding withCrc
+  accepted-written t =
+      protected-parts
+      ∙ ap (λ (c : Word). dataOf w ++ c) (sym (same-equal (crc generator (dataOf w)) (storedCrc w) (subst T accepted-crc t)))
+
+  protected-same : same (protected w) (withCrc (dataOf w)) ≡ accepted w
+  unfolding withCrc
+  protected-same =
+      ap (λ (p : Word). same p (dataOf w ++ crc generator (dataOf w))) protected-parts
+      ∙ same-append (dataOf w) (dataOf w) (storedCrc w) (crc generator (dataOf w)) refl
+      ∙ ap (λ (t : Bool). t && same (storedCrc w) (crc generator (dataOf w))) (same-refl (dataOf w))
+      ∙ same-comm (storedCrc w) (crc generator (dataOf w))
+      ∙ sym accepted-crc
+
+  -- a line is correct exactly where it is accepted and its Hamming bits are the sum of positions
+  pub isCorrect-parts : isCorrect w ≡ accepted w && eqb (columnSum positions (protected w)) (number (storedHamming w))
+  unfolding isCorrect codeword withHamming withCrc
+  isCorrect-parts =
+      ap (λ (x : Word). same x (withCrc d ++ hamming (withCrc d))) line-parts
+      ∙ same-append (protected w) (withCrc d) (storedHamming w) (hamming (withCrc d)) lengths
+      ∙ ap (λ (t : Bool). t && same (storedHamming w) (hamming (withCrc d))) protected-same
+      ∙ rest (accepted w) refl
+    where
+      d : Word
+      d = dataOf w
+
+      s : ℕ
+      s = columnSum positions (protected w)
+
+      lengths : length (protected w) ≡ length (withCrc d)
+      lengths =
+          ap length protected-parts ∙ length-append d (storedCrc w)
+          ∙ ap (λ (n : ℕ). length d + n) (length-storedCrc ∙ sym (length-crc generator d))
+          ∙ sym (length-append d (crc generator d))
+
+      rest : (t : Bool) → accepted w ≡ t
+          → accepted w && same (storedHamming w) (hamming (withCrc d)) ≡ accepted w && eqb s (number (storedHamming w))
+      rest true q =
+          ap (λ (p : Word). accepted w && same (storedHamming w) p)
+          (ap hamming (sym (accepted-written (subst T (sym q) tt))) ∙ hamming-digits (protected w))
+          ∙ ap (λ (t : Bool). accepted w && t)
+          (same-comm (storedHamming w) (digits 10 s)
+          ∙ sym (same-number (digits 10 s) (storedHamming w) (length-digits 10 s ∙ sym length-storedHamming))
+          ∙ ap (λ (n : ℕ). eqb n (number (storedHamming w))) (number-small 10 s (position-sum-lt (protected w))))
+      rest false q =
+          ap (λ (t : Bool). t && same (storedHamming w) (hamming (withCrc d))) q
+          ∙ sym (ap (λ (t : Bool). t && eqb s (number (storedHamming w))) q)
+
+-- ---- what writing gives
+module _ (d : Word) (full : length d ≡ dataPlaces) where
+  pub length-withCrc : length (withCrc d) ≡ protectedPlaces
+  unfolding withCrc
+  length-withCrc =
+      length-append d (crc generator d)
+      ∙ ap₂ _+_ (full ∙ data-is) (length-crc generator d ∙ length-generator)
+      ∙ sym protected-is
+
+  -- the data and the CRC come back from the line that holds them alone
+  pub protected-withCrc : (l : List ℕ) → l ≡ lineOf (withCrc d) → protected (places l) ≡ withCrc d
+  protected-withCrc l e =
+      ap (λ (x : List ℕ). protected (places x)) e
+      ∙ protected-lineOf (withCrc d) (omega (arith, length-withCrc, protected-is)) (omega (arith, length-withCrc, protected-is))
+      ∙ take-all protectedPlaces (withCrc d) (omega (arith, length-withCrc))
+
+  pub length-codeword : length (codeword d) ≡ linePlaces
+  unfolding codeword withHamming
+  length-codeword =
+      length-append (withCrc d) (hamming (withCrc d))
+      ∙ ap₂ _+_ (length-withCrc ∙ protected-is)
+      (ap length (hamming-digits (withCrc d)) ∙ length-digits 10 (columnSum positions (withCrc d)))
+      ∙ sym places-is
+
+  pub protected-codeword : protected (codeword d) ≡ withCrc d
+  unfolding protected codeword withHamming
+  protected-codeword = take-at (withCrc d) (hamming (withCrc d)) protectedPlaces length-withCrc
+
+  pub dataOf-codeword : dataOf (codeword d) ≡ d
+  unfolding dataOf codeword withHamming withCrc
+  dataOf-codeword =
+      ap (take dataPlaces) (append-assoc d (crc generator d) (hamming (withCrc d)))
+      ∙ take-at d (crc generator d ++ hamming (withCrc d)) dataPlaces full
