@@ -9,3 +9,5 @@ pub mod CrcTable
 pub mod Codeword
 pub mod ReadAlone
 pub mod Entry
+pub mod Lines
+pub mod Promises

@@ -12,12 +12,12 @@ use borrow.Author.Tests.{lt-ltb, le-ltb, eqb-true, ne-eqb}
 use lib.Arith.{lt-of-le-ne}
 use lib.Bits.{bitXor, xor-comm, xor-shifted, xor-zero-r}
 use lib.Dec.{T, eqb, ltb, eqb→eq, ltb→lt}
-use lib.ListN.{length, take, drop, getD, take-append-drop, length-drop}
+use lib.ListN.{length, take, drop, getD, take-append-drop, length-append, length-drop, List·getD-append}
 use lib.Pow.{pow-lt}
 use lib.Seq.{length-take-le}
-use Rattle.gf2.specs.Word.{Word, digits, number}
+use Rattle.gf2.specs.Word.{Word, flip, digits, number}
 use Rattle.gf2.specs.Check.{columnSum}
-use Rattle.gf2.proofs.Hamming.{columnSum-append}
+use Rattle.gf2.proofs.Hamming.{columnSum-append, columnSum-flip}
 use Rattle.linecode.specs.Places.{protectedPlaces, hammingPlaces, linePlaces, places}
 use Rattle.linecode.specs.Code.{protected, storedHamming, positions, hammingColumns, columns, upFrom, syndrome, indexOf, naming, answerTo}
 use Rattle.linecode.specs.declared.hamming.Answer.{Answer}
@@ -213,3 +213,25 @@ seek-end s power k h i = i .same-log ∙ stops (10 - k)
     stops : (n : ℕ) → reaching n power k s ≡ k
     stops zero = refl
     stops (suc n) = ap (λ (b : Bool). cond b (reaching n (2 * power) (suc k) s) k) (le-ltb power s h)
+
+-- ---- the position of a protected place names that place
+named : ℕ → Bool
+named i = sameAnswer (answerTo (getD positions i 0)) (Protected i)
+
+all-named : T (every named 543)
+unfolding named sameAnswer answerTo naming columns positions hammingColumns hammingPlaces protectedPlaces linePlaces
+all-named = tt
+
+pub position-named : (i : ℕ) → i < 543 → answerTo (getD positions i 0) ≡ Protected i
+unfolding named
+position-named i h = same-answer (answerTo (getD positions i 0)) (Protected i) (every-at named 543 i all-named h)
+
+-- a protected place turned over adds its position to the syndrome
+pub column-position : (w : Word) (i : ℕ) → length w ≡ linePlaces → i < 543
+    → syndrome (flip i w) ≡ bitXor (syndrome w) (getD positions i 0)
+unfolding syndrome columns
+column-position w i e h =
+    columnSum-flip (positions ++ hammingColumns) w i (omega (arith, e, places-is))
+    (omega (arith, length-append positions hammingColumns, length-positions))
+    ∙ ap (bitXor (columnSum (positions ++ hammingColumns) w))
+    (List·getD-append positions hammingColumns 0 i (omega (arith, length-positions)))

@@ -1,0 +1,208 @@
+-- The promises of the line code are kept.
+use mathlib.Core.Path.{_≡_, refl, sym, ap, ap₂, _∙_, subst}
+use mathlib.Core.Bool.{Bool, true, false, true≢false}
+use mathlib.Core.Logic.{_⊎_, inl, inr, _↔_}
+use mathlib.Core.List.{List, [], _∷_, _++_}
+use Prim.Native.Nat.{ℕ, zero, suc, _+_, _*_, _≤_, _<_}
+use native.Mathlib.Nat.{le-of-suc-le-suc}
+use native.Mathlib.Decide.{decLt}
+use native.Mathlib.Omega.{arith}
+use lib.Bits.{bitXor}
+use lib.Dec.{T}
+use lib.ListN.{length, getD, take}
+use Rattle.gf2.specs.Word.{Word, _⊕_, weight, distance, flip, same}
+use Rattle.gf2.specs.Check.{divisible, crc, columnSum}
+use Rattle.gf2.specs.Generator.{generator}
+use Rattle.gf2.proofs.Xor.{xor-comm}
+use Rattle.gf2.proofs.Hamming.{columnSum-flip}
+use Rattle.gf2.proofs.Same.{same-refl, same-equal}
+use Rattle.gf2.proofs.Crc.{divisible-crc}
+use Rattle.gf2.proofs.Weight.{length-flip, flip-flip, distance-flip, one-flip, OneFlip, take-flip, flip-past}
+use Rattle.linecode.specs.Places.{dataPlaces, protectedPlaces, linePlaces, bitsOf, places, lineOf}
+use Rattle.linecode.specs.Code.{protected, accepted, withHamming, codeword, Correct, positions, columns, syndrome, answerTo}
+use Rattle.linecode.specs.Reading.{Read, acceptedAs, faulty, afterFlip, corrected, firstLook, readAlone}
+use Rattle.linecode.specs.Entry.{written, reading}
+use Rattle.linecode.specs.Promises.{ReadsAs, Promises}
+use Rattle.linecode.specs.declared.alone.Reading.{Reading}
+use Rattle.linecode.specs.declared.hamming.Answer.{Answer}
+use Rattle.linecode.specs.declared.hamming.Answer.the-variants.{None, Hamming, Protected}
+use Rattle.linecode.proofs.Bytes.{length-bitsOf}
+use Rattle.linecode.proofs.Line.{protected-is, data-is, places-is, places-lineOf}
+use Rattle.linecode.proofs.CrcTable.{length-generator}
+use Rattle.linecode.proofs.Codeword.{length-codeword, length-protected}
+use Rattle.linecode.proofs.Syndrome.{none-zero, none-above, none-exactly, position-named, column-position}
+use Rattle.linecode.proofs.ReadAlone.{read-clean, read-flip, in-bytes}
+use Rattle.linecode.proofs.Lines.{correct-length, codeword-correct, correct-rewritten, correct-accepted, correct-syndrome, near, correct-apart, accepted-correct, correct-xor}
+
+holds : (b : Bool) → b ≡ true → T b
+holds true e = tt
+holds false e = absurd (true≢false (sym e))
+
+-- ---- what a reading is, by the ways out of it
+module _ (found : Word) where
+  -- accepted with a mark of at most 1, as a line at most one place away; or faulty, as found
+  Read-cases : Type 0
+  Read-cases =
+      ((x : Word) × (m : ℕ) × (readAlone found ≡ acceptedAs m x) × (m ≤ 1) × T (accepted x) × (length x ≡ length found)
+      × ((w : Word) → distance w x ≤ suc (distance w found)))
+      ⊎ (readAlone found ≡ faulty found)
+
+  closer : (i : ℕ) (w : Word) → distance w (flip i found) ≤ suc (distance w found)
+  closer i w =
+      subst (λ (n : ℕ). n ≤ suc (distance w found)) (ap weight (xor-comm (flip i found) w))
+      (subst (λ (n : ℕ). distance (flip i found) w ≤ suc n) (ap weight (xor-comm found w)) (distance-flip i found w))
+
+  read-cases : Read-cases
+  unfolding Read-cases readAlone
+  read-cases = first (accepted found) refl
+    where
+      second : (i : ℕ) (t : Bool) → accepted found ≡ false → answerTo (syndrome found) ≡ Protected i → accepted (flip i found) ≡ t → Read-cases
+      second i true e n s =
+          inl (flip i found, 1, read-flip found i true e n s, omega arith, holds (accepted (flip i found)) s, length-flip i found, closer i)
+      second i false e n s = inr (read-flip found i false e n s)
+      answered : (a : Answer) → accepted found ≡ false → answerTo (syndrome found) ≡ a → Read-cases
+      answered None e n = inr (ap (λ (b : Bool). firstLook b found) e ∙ ap (λ (a : Answer). corrected a found) n)
+      answered (Hamming k) e n = inr (ap (λ (b : Bool). firstLook b found) e ∙ ap (λ (a : Answer). corrected a found) n)
+      answered (Protected i) e n = second i (accepted (flip i found)) e n refl
+      first : (b : Bool) → accepted found ≡ b → Read-cases
+      first true e = inl (found, 0, read-clean found e, omega arith, holds (accepted found) e, refl, λ w. omega arith)
+      first false e = answered (answerTo (syndrome found)) e refl
+
+reads-as : (w found x : Word) (m : ℕ) → readAlone found ≡ acceptedAs m x → m ≤ 1 → withHamming (protected x) ≡ w
+    → ReadsAs w (readAlone found)
+reads-as w found x m e h g =
+    record {
+      gives = ap (λ (r : Read). r .word) e ∙ g;
+      accepted = subst (λ (n : ℕ). n ≤ 1) (sym (ap (λ (r : Read). r .mark) e)) h;
+    }
+
+detects : (w found : Word) → Correct w → length found ≡ linePlaces → distance w found ≤ 6
+    → ReadsAs w (readAlone found) ⊎ (readAlone found .mark ≡ 4)
+unfolding Read-cases
+detects w found c e d = go (read-cases found)
+  where
+    go : Read-cases found → ReadsAs w (readAlone found) ⊎ (readAlone found .mark ≡ 4)
+    go (inl p) =
+        let within : distance w (p .0) ≤ 7 = omega (arith, p .6 w) in
+        inl (reads-as w found (p .0) (p .1) (p .2) (p .3) (near w (p .0) c (p .5 ∙ e) within (p .4)))
+    go (inr q) = inr (ap (λ (r : Read). r .mark) q)
+
+kept : (found : Word) → readAlone found .mark ≡ 4 → readAlone found .word ≡ found
+unfolding Read-cases
+kept found m = go (read-cases found)
+  where
+    go : Read-cases found → readAlone found .word ≡ found
+    go (inl p) =
+        let four : p .1 ≡ 4 = sym (ap (λ (r : Read). r .mark) (p .2)) ∙ m in
+        let z : ⊥ = omega (arith, p .3) in
+        absurd z
+    go (inr q) = ap (λ (r : Read). r .word) q
+
+sound : (found : Word) → length found ≡ linePlaces
+    → (readAlone found .mark ≡ 4) ⊎ ((readAlone found .mark ≤ 1) × Correct (readAlone found .word))
+unfolding Read-cases
+sound found e = go (read-cases found)
+  where
+    go : Read-cases found → (readAlone found .mark ≡ 4) ⊎ ((readAlone found .mark ≤ 1) × Correct (readAlone found .word))
+    go (inl p) =
+        inr (subst (λ (n : ℕ). n ≤ 1) (sym (ap (λ (r : Read). r .mark) (p .2))) (p .3),
+        subst Correct (sym (ap (λ (r : Read). r .word) (p .2))) (accepted-correct (p .0) (p .5 ∙ e) (p .4)))
+    go (inr q) = inl (ap (λ (r : Read). r .mark) q)
+
+-- ---- one damaged place
+module _ (w : Word) (c : Correct w) where
+  whole : length w ≡ linePlaces
+  whole = correct-length w c
+
+  -- at a protected place the syndrome names it, and the flip gives the line back
+  flipped : (i : ℕ) → i < 543 → accepted (flip i w) ≡ false → ReadsAs w (readAlone (flip i w))
+  flipped i h e =
+      reads-as w (flip i w) (flip i (flip i w)) 1
+      (read-flip (flip i w) i true e names (ap accepted (flip-flip i w) ∙ correct-accepted w c))
+      (omega arith)
+      (ap (λ (x : Word). withHamming (protected x)) (flip-flip i w) ∙ correct-rewritten w c)
+    where
+      names : answerTo (syndrome (flip i w)) ≡ Protected i
+      names = ap answerTo (column-position w i whole h ∙ ap (λ (s : ℕ). bitXor s (getD positions i 0)) (correct-syndrome w c)) ∙ position-named i h
+
+  -- in the Hamming bits the protected word is untouched
+  untouched : (i : ℕ) → 543 ≤ i → accepted (flip i w) ≡ true
+  unfolding accepted protected
+  untouched i h =
+      ap (divisible generator)
+      (take-flip protectedPlaces i w
+      ∙ flip-past i (take protectedPlaces w) (omega (arith, length-protected w whole, protected-is)))
+      ∙ correct-accepted w c
+
+corrects : (w found : Word) → Correct w → length found ≡ linePlaces → distance w found ≤ 1 → ReadsAs w (readAlone found)
+corrects w found c e d = go (accepted found) refl
+  where
+    hurt : (i : ℕ) → found ≡ flip i w → accepted found ≡ false → Dec (i < 543) → ReadsAs w (readAlone found)
+    hurt i q f (yes h) =
+        subst (λ (x : Word). ReadsAs w (readAlone x)) (sym q) (flipped w c i h (ap accepted (sym q) ∙ f))
+    hurt i q f (no h) =
+        absurd (true≢false (sym (untouched w c i (omega arith)) ∙ ap accepted (sym q) ∙ f))
+    missed : accepted found ≡ false → OneFlip found w → ReadsAs w (readAlone found)
+    missed f (inl q) = absurd (true≢false (sym (correct-accepted w c) ∙ ap accepted (sym q) ∙ f))
+    missed f (inr p) = hurt (p .0) (p .2) f (decLt (p .0) 543)
+    go : (b : Bool) → accepted found ≡ b → ReadsAs w (readAlone found)
+    go true f =
+        reads-as w found found 0 (read-clean found f) (omega arith) (near w found c e (omega arith) (holds (accepted found) f))
+    go false f =
+        missed f (one-flip found w (e ∙ sym (correct-length w c)) (subst (λ (n : ℕ). n ≤ 1) (ap weight (xor-comm w found)) d))
+
+-- ---- writing and reading in bytes
+writes : (payload : List ℕ) → length payload ≡ 64
+    → Correct (places (written payload)) × (reading (written payload) ≡ record { line = written payload; mark = 0 })
+unfolding written
+writes payload e =
+    (subst Correct (sym back) correct,
+    sym (in-bytes (lineOf word) (acceptedAs 0 word) (ap readAlone back ∙ read-clean word (correct-accepted word correct)))
+    ∙ ap (λ (w : Word). record { line = lineOf w; mark = 0 }) (correct-rewritten word correct))
+  where
+    full : length (bitsOf payload) ≡ dataPlaces
+    full = length-bitsOf payload ∙ ap (λ (n : ℕ). 8 * n) e ∙ sym data-is
+    word : Word
+    word = codeword (bitsOf payload)
+    correct : Correct word
+    correct = codeword-correct (bitsOf payload) full
+    long : length word ≡ linePlaces
+    long = length-codeword (bitsOf payload) full
+    back : places (lineOf word) ≡ word
+    back = places-lineOf word (omega (arith, long, places-is)) (omega (arith, long, places-is)) long
+
+spare : (line other : List ℕ) → places line ≡ places other → reading line ≡ reading other
+unfolding reading
+spare line other e = ap (λ (w : Word). record { line = lineOf (readAlone w .word); mark = readAlone w .mark }) e
+
+only : (d check : Word) → length check ≡ 31 → T (divisible generator (d ++ check)) ↔ (check ≡ crc generator d)
+only d check e =
+    (λ (t : T (divisible generator (d ++ check))). sym (same-equal (crc generator d) check (subst T same-crc t)),
+    λ (q : check ≡ crc generator d).
+    subst T (sym (same-crc ∙ ap (same (crc generator d)) q ∙ same-refl (crc generator d))) tt)
+  where
+    same-crc : divisible generator (d ++ check) ≡ same (crc generator d) check
+    same-crc = divisible-crc generator d check (e ∙ sym length-generator)
+
+none : (s : ℕ) → (answerTo s ≡ None) ↔ ((s ≡ 0) ⊎ (553 < s))
+none s = (none-exactly s, back)
+  where
+    back : (s ≡ 0) ⊎ (553 < s) → answerTo s ≡ None
+    back (inl e) = ap answerTo e ∙ none-zero
+    back (inr h) = none-above s h
+
+pub promises : Promises
+promises =
+    record {
+      sized = correct-length;
+      apart = λ w v c k d. correct-apart w v c k (le-of-suc-le-suc d);
+      summed = correct-xor;
+      corrects = corrects;
+      detects = detects;
+      kept = kept;
+      sound = sound;
+      writes = writes;
+      spare = spare;
+      only = only;
+      none = none;
+    }

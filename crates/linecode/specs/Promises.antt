@@ -1,0 +1,51 @@
+-- What the line code promises to the layers above; they rely on these statements and on nothing else of it.
+use mathlib.Core.Path.{_≡_}
+use mathlib.Core.Logic.{_⊎_, _↔_}
+use mathlib.Core.List.{List, _++_}
+use Prim.Native.Nat.{ℕ, _≤_, _<_}
+use lib.Dec.{T}
+use lib.ListN.{length}
+use Rattle.gf2.specs.Word.{Word, _⊕_, distance}
+use Rattle.gf2.specs.Check.{divisible, crc}
+use Rattle.gf2.specs.Generator.{generator}
+use Rattle.linecode.specs.Places.{linePlaces, bitsOf, places}
+use Rattle.linecode.specs.Code.{Correct, answerTo}
+use Rattle.linecode.specs.Reading.{Read, readAlone}
+use Rattle.linecode.specs.Entry.{written, reading}
+use Rattle.linecode.specs.declared.alone.Reading.{Reading}
+use Rattle.linecode.specs.declared.hamming.Answer.{Answer}
+use Rattle.linecode.specs.declared.hamming.Answer.the-variants.{None}
+
+-- a line read alone is accepted, and read as w
+pub record ReadsAs (w : Word) (r : Read) : Type 0 where
+  pub gives : r .word ≡ w
+  pub accepted : r .mark ≤ 1
+
+-- w and v are correct lines, found is a line as found
+pub record Promises : Type 0 where
+  -- a correct line has all 553 places
+  pub sized : (w : Word) → Correct w → length w ≡ linePlaces
+  -- two correct lines that differ in fewer than eight places are equal
+  pub apart : (w v : Word) → Correct w → Correct v → distance w v < 8 → w ≡ v
+  -- the exclusive or of correct lines is a correct line
+  pub summed : (w v : Word) → Correct w → Correct v → Correct (w ⊕ v)
+  -- a line that differs from a correct one in at most one place is read as that one
+  pub corrects : (w found : Word) → Correct w → length found ≡ linePlaces → distance w found ≤ 1 → ReadsAs w (readAlone found)
+  -- a line that differs from a correct one in at most six places is read as that one or is faulty
+  pub detects : (w found : Word) → Correct w → length found ≡ linePlaces → distance w found ≤ 6
+      → ReadsAs w (readAlone found) ⊎ (readAlone found .mark ≡ 4)
+  -- a faulty line is given back as found
+  pub kept : (found : Word) → readAlone found .mark ≡ 4 → readAlone found .word ≡ found
+  -- any other line is accepted, and read as a correct one
+  pub sound : (found : Word) → length found ≡ linePlaces
+      → (readAlone found .mark ≡ 4) ⊎ ((readAlone found .mark ≤ 1) × Correct (readAlone found .word))
+  -- a line written is correct, and reads as itself with mark 0
+  pub writes : (payload : List ℕ) → length payload ≡ 64
+      → Correct (places (written payload)) × (reading (written payload) ≡ record { line = written payload; mark = 0 })
+  -- reading ignores spare bits
+  pub spare : (line other : List ℕ) → places line ≡ places other → reading line ≡ reading other
+  -- the CRC is the only 31 bits that make the word divisible
+  pub only : (data′ check : Word) → length check ≡ 31
+      → T (divisible generator (data′ ++ check)) ↔ (check ≡ crc generator data′)
+  -- none is answered to a syndrome of 0 and above 553, and to no other
+  pub none : (s : ℕ) → (answerTo s ≡ None) ↔ ((s ≡ 0) ⊎ (553 < s))
