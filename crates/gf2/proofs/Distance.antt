@@ -7,6 +7,7 @@ use lib.ListN.{length}
 use Rattle.gf2.specs.Word.{Word, _⊕_, zeros, weight, distance}
 use Rattle.gf2.specs.Check.{divisible}
 use Rattle.gf2.specs.Generator.{generator}
+use Rattle.gf2.specs.Distance.{DistanceEight, DivisibleEqual}
 use Rattle.gf2.proofs.Xor.{length-xor-same, xor-equal}
 use Rattle.gf2.proofs.Linear.{divisible-xor}
 use Rattle.gf2.proofs.Evaluation.{value-divisible}
@@ -18,7 +19,7 @@ generator-positive : 0 < length generator
 unfolding generator
 generator-positive = lit< tt
 
-pub distance-eight : (w : Word) → length w ≤ 1023 → T (divisible generator w) → weight w ≤ 7 → w ≡ zeros (length w)
+pub distance-eight : DistanceEight
 distance-eight w h t k =
     vanish-zeros field unity unity-nonzero w
     (vandermonde field root root-additive 1023 root-separate w (λ e. unity) h
@@ -26,8 +27,7 @@ distance-eight w h t k =
     value-divisible field generator (λ e. iterate root (j * e) unity) (generator-recurs j (omega arith)) generator-positive w t))
 
 -- two divisible words of one length that differ at no more than seven places are equal
-pub divisible-equal : (x y : Word) → length x ≡ length y → length x ≤ 1023 → T (divisible generator x) → T (divisible generator y)
-    → distance x y ≤ 7 → x ≡ y
+pub divisible-equal : DivisibleEqual
 divisible-equal x y e h s t d =
     let n : length (x ⊕ y) ≡ length x = length-xor-same x y e in
     xor-equal x y e (distance-eight (x ⊕ y) (omega arith) (divisible-xor generator x y e s t) d ∙ ap zeros n)

@@ -1,5 +1,6 @@
--- Words of bits of any width, as document 01 speaks of them: read Word, then Polynomial, then Check.
+-- Words of bits of any width, as document 01 speaks of them: read Word, then Polynomial, then Check, Generator, Distance.
 pub mod Word
 pub mod Polynomial
 pub mod Check
 pub mod Generator
+pub mod Distance

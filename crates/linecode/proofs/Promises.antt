@@ -60,10 +60,12 @@ module _ (found : Word) where
       second i true e n s =
           inl (flip i found, 1, read-flip found i true e n s, omega arith, holds (accepted (flip i found)) s, length-flip i found, closer i)
       second i false e n s = inr (read-flip found i false e n s)
+
       answered : (a : Answer) → accepted found ≡ false → answerTo (syndrome found) ≡ a → Read-cases
       answered None e n = inr (ap (λ (b : Bool). firstLook b found) e ∙ ap (λ (a : Answer). corrected a found) n)
       answered (Hamming k) e n = inr (ap (λ (b : Bool). firstLook b found) e ∙ ap (λ (a : Answer). corrected a found) n)
       answered (Protected i) e n = second i (accepted (flip i found)) e n refl
+
       first : (b : Bool) → accepted found ≡ b → Read-cases
       first true e = inl (found, 0, read-clean found e, omega arith, holds (accepted found) e, refl, λ w. omega arith)
       first false e = answered (answerTo (syndrome found)) e refl
@@ -105,8 +107,10 @@ sound found e = go (read-cases found)
   where
     go : Read-cases found → (readAlone found .mark ≡ 4) ⊎ ((readAlone found .mark ≤ 1) × Correct (readAlone found .word))
     go (inl p) =
-        inr (subst (λ (n : ℕ). n ≤ 1) (sym (ap (λ (r : Read). r .mark) (p .2))) (p .3),
-        subst Correct (sym (ap (λ (r : Read). r .word) (p .2))) (accepted-correct (p .0) (p .5 ∙ e) (p .4)))
+        inr (
+          subst (λ (n : ℕ). n ≤ 1) (sym (ap (λ (r : Read). r .mark) (p .2))) (p .3),
+          subst Correct (sym (ap (λ (r : Read). r .word) (p .2))) (accepted-correct (p .0) (p .5 ∙ e) (p .4)),
+        )
     go (inr q) = inl (ap (λ (r : Read). r .mark) q)
 
 -- ---- one damaged place
@@ -142,9 +146,11 @@ corrects w found c e d = go (accepted found) refl
         subst (λ (x : Word). ReadsAs w (readAlone x)) (sym q) (flipped w c i h (ap accepted (sym q) ∙ f))
     hurt i q f (no h) =
         absurd (true≢false (sym (untouched w c i (omega arith)) ∙ ap accepted (sym q) ∙ f))
+
     missed : accepted found ≡ false → OneFlip found w → ReadsAs w (readAlone found)
     missed f (inl q) = absurd (true≢false (sym (correct-accepted w c) ∙ ap accepted (sym q) ∙ f))
     missed f (inr p) = hurt (p .0) (p .2) f (decLt (p .0) 543)
+
     go : (b : Bool) → accepted found ≡ b → ReadsAs w (readAlone found)
     go true f =
         reads-as w found found 0 (read-clean found f) (omega arith) (near w found c e (omega arith) (holds (accepted found) f))
@@ -155,19 +161,24 @@ corrects w found c e d = go (accepted found) refl
 writes : (payload : List ℕ) → length payload ≡ 64
     → Correct (places (written payload)) × (reading (written payload) ≡ record { line = written payload; mark = 0 })
 unfolding written
-writes payload e =
-    (subst Correct (sym back) correct,
-    sym (in-bytes (lineOf word) (acceptedAs 0 word) (ap readAlone back ∙ read-clean word (correct-accepted word correct)))
-    ∙ ap (λ (w : Word). record { line = lineOf w; mark = 0 }) (correct-rewritten word correct))
+writes payload e = (
+  subst Correct (sym back) correct,
+  sym (in-bytes (lineOf word) (acceptedAs 0 word) (ap readAlone back ∙ read-clean word (correct-accepted word correct)))
+      ∙ ap (λ (w : Word). record { line = lineOf w; mark = 0 }) (correct-rewritten word correct),
+)
   where
     full : length (bitsOf payload) ≡ dataPlaces
     full = length-bitsOf payload ∙ ap (λ (n : ℕ). 8 * n) e ∙ sym data-is
+
     word : Word
     word = codeword (bitsOf payload)
+
     correct : Correct word
     correct = codeword-correct (bitsOf payload) full
+
     long : length word ≡ linePlaces
     long = length-codeword (bitsOf payload) full
+
     back : places (lineOf word) ≡ word
     back = places-lineOf word (omega (arith, long, places-is)) (omega (arith, long, places-is)) long
 
@@ -176,10 +187,11 @@ unfolding reading
 spare line other e = ap (λ (w : Word). record { line = lineOf (readAlone w .word); mark = readAlone w .mark }) e
 
 only : (d check : Word) → length check ≡ 31 → T (divisible generator (d ++ check)) ↔ (check ≡ crc generator d)
-only d check e =
-    (λ (t : T (divisible generator (d ++ check))). sym (same-equal (crc generator d) check (subst T same-crc t)),
-    λ (q : check ≡ crc generator d).
-    subst T (sym (same-crc ∙ ap (same (crc generator d)) q ∙ same-refl (crc generator d))) tt)
+only d check e = (
+  λ (t : T (divisible generator (d ++ check))). sym (same-equal (crc generator d) check (subst T same-crc t)),
+  λ (q : check ≡ crc generator d).
+      subst T (sym (same-crc ∙ ap (same (crc generator d)) q ∙ same-refl (crc generator d))) tt,
+)
   where
     same-crc : divisible generator (d ++ check) ≡ same (crc generator d) check
     same-crc = divisible-crc generator d check (e ∙ sym length-generator)

@@ -1,0 +1,2 @@
+-- Every starred sample follows from the rules.
+pub mod Samples
