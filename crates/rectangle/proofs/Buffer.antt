@@ -114,6 +114,25 @@ linesIn-bufferOf ws sized =
     let below : n < length ws = omega (arith, length-linesIn (length ws) (bufferOf ws)) in
     linesIn-at (length ws) (bufferOf ws) n below ∙ placesAt-bufferOf ws sized n below)
 
+-- a table of k lines, line n given by a function
+module _ (line : ℕ → Word) (k : ℕ) where
+  length-table : length (map line (upFrom 0 k)) ≡ k
+  length-table = length-map (upFrom 0 k) line ∙ length-upFrom 0 k
+
+  line-of : (n : ℕ) → n < k → wordAt (map line (upFrom 0 k)) n ≡ line n
+  line-of n h = map-upFrom line 0 k n [] h ∙ ap line (zero-add n)
+
+  pub table-at : ((n : ℕ) → n < k → length (line n) ≡ linePlaces) → (n : ℕ) → n < k
+      → placesAt (bufferOf (map line (upFrom 0 k))) n ≡ line n
+  table-at sized n h =
+      placesAt-bufferOf (map line (upFrom 0 k))
+      (λ m i. let below : m < k = omega (arith, length-table) in ap length (line-of m below) ∙ sized m below) n
+      (omega (arith, length-table))
+      ∙ line-of n h
+
+  pub length-table-bytes : length (bufferOf (map line (upFrom 0 k))) ≡ k * lineBytes
+  length-table-bytes = length-bufferOf (map line (upFrom 0 k)) ∙ ap (λ (m : ℕ). m * lineBytes) length-table
+
 -- a line put into a buffer made from lines
 pub putLine-bufferOf : (ws : List Word) (n : ℕ) (w : Word) → n < length ws → putLine (bufferOf ws) n w ≡ bufferOf (set ws n w)
 unfolding putLine

@@ -2,18 +2,19 @@
 use mathlib.Core.Path.{_≡_, refl, sym, ap, ap₂, subst, _∙_}
 use mathlib.Core.Logic.{_⊎_, inl, inr}
 use mathlib.Core.Bool.{Bool, true, false, and-eq-true-iff}
-use mathlib.Core.List.{List, map}
+use mathlib.Core.List.{List, map, _++_}
 use Prim.Native.Nat.{ℕ, suc, _+_, _*_, _/_, _%_, _≤_, _<_}
 use native.Mathlib.Nat.{zero-add, suc-mul, div-add-mod', mod-lt, mod-eq-of-lt, div-eq-of-lt, div-lt-iff-lt-mul, mul-add-div-right, add-mul-mod-self-right, mul-le-mul-right}
 use native.Mathlib.Omega.{arith}
 use borrow.Author.Tests.{leb-true}
 use lib.Dec.{leb}
+use Rattle.gf2.specs.Word.{Word}
 use Rattle.linecode.specs.Code.{upFrom}
 use Rattle.scheme.specs.Visit.{Group}
 use Rattle.scheme.specs.Demand3.{_∈_, Rising, RisingGroups}
-use Rattle.rectangle.specs.Store.{stride, row, column, rowGroup, columnGroup, groups}
+use Rattle.rectangle.specs.Store.{placesAt, stride, row, column, rowGroup, columnGroup, groups}
 use Rattle.rectangle.specs.Refusals.{sideFits, sidesFit}
-use Rattle.rectangle.proofs.Members.{in-upFrom, upFrom-bounds, in-map, map-from, in-left, in-right, append-from}
+use Rattle.rectangle.proofs.Members.{in-upFrom, upFrom-bounds, in-map, map-from, in-left, in-right, append-from, map-below}
 use Rattle.rectangle.proofs.Stride.{in-stride, stride-index, rising-stride}
 
 -- rows and columns as refusal 2 asks for
@@ -142,13 +143,27 @@ module _ (rows columns : ℕ) (some : 0 < columns) where
         go (inr c) = subst P (sym (c .2)) (k (c .0) (c .1))
 
     pub rising-groups : RisingGroups (groups rows columns rowTable columnTable)
-    unfolding rowGroup columnGroup row column
+    unfolding row column
     rising-groups =
         by-groups (λ g. Rising (g .members)) (λ r h. rising-stride (r * columns) 1 columns (omega arith))
         (λ c h. rising-stride c columns rows some)
 
     pub groups-inside : (g : Group) → g ∈ groups rows columns rowTable columnTable → (m : ℕ) → m ∈ g .members → m < rows * columns
-    unfolding rowGroup columnGroup
     groups-inside =
         by-groups (λ g. (m : ℕ) → m ∈ g .members → m < rows * columns) (λ r h m i. row-inside r m h i)
         (λ c h m i. column-inside c m h i)
+
+-- tables with the same places make the same groups
+pub equal-groups : (rows columns : ℕ) (rowTable columnTable rowTable′ columnTable′ : List ℕ)
+    → ((r : ℕ) → r < rows → placesAt rowTable r ≡ placesAt rowTable′ r)
+    → ((c : ℕ) → c < columns → placesAt columnTable c ≡ placesAt columnTable′ c)
+    → groups rows columns rowTable columnTable ≡ groups rows columns rowTable′ columnTable′
+unfolding groups
+equal-groups rows columns rowTable columnTable rowTable′ columnTable′ h k =
+    ap₂ _++_
+    (map-below (rowGroup columns rowTable) (rowGroup columns rowTable′) rows (λ r i. ap (group (row columns r)) (h r i)))
+    (map-below (columnGroup rows columns columnTable) (columnGroup rows columns columnTable′) columns
+    (λ c i. ap (group (column rows columns c)) (k c i)))
+  where
+    group : List ℕ → Word → Group
+    group members parity = record { members = members; parity = parity }

@@ -4,3 +4,8 @@ pub mod Stride
 pub mod Spare
 pub mod Buffer
 pub mod Groups
+pub mod Tests
+pub mod Parity
+pub mod Written
+pub mod Order
+pub mod Demand3

@@ -1,5 +1,5 @@
 -- Membership in numbers counted upward, in an image and in two lists one after the other.
-use mathlib.Core.Path.{_≡_, refl, sym, ap, _∙_}
+use mathlib.Core.Path.{_≡_, refl, sym, ap, ap₂, _∙_}
 use mathlib.Core.Logic.{_⊎_, inl, inr}
 use mathlib.Core.List.{List, [], _∷_, _++_, map}
 use Prim.Native.Nat.{ℕ, zero, suc, _+_, _≤_, _<_}
@@ -39,6 +39,13 @@ pub map-from : {A : Type 0} (f : ℕ → A) (ns : List ℕ) (a : A) → a ∈ ma
 map-from f [] a i = absurd i
 map-from f (m ∷ ns) a (inl e) = (m, inl refl, e)
 map-from f (m ∷ ns) a (inr i) = let r = map-from f ns a i in (r .0, inr (r .1), r .2)
+
+map-same : {A : Type 0} (f g : ℕ → A) (ns : List ℕ) → ((n : ℕ) → n ∈ ns → f n ≡ g n) → map f ns ≡ map g ns
+map-same f g [] h = refl
+map-same f g (n ∷ ns) h = ap₂ (λ a l. a ∷ l) (h n (inl refl)) (map-same f g ns (λ m i. h m (inr i)))
+
+pub map-below : {A : Type 0} (f g : ℕ → A) (k : ℕ) → ((n : ℕ) → n < k → f n ≡ g n) → map f (upFrom 0 k) ≡ map g (upFrom 0 k)
+map-below f g k h = map-same f g (upFrom 0 k) (λ n i. h n (omega (arith, upFrom-bounds 0 k n i .1)))
 
 -- ---- membership in two lists
 pub in-left : {A : Type 0} (k l : List A) (a : A) → a ∈ k → a ∈ (k ++ l)

@@ -24,6 +24,10 @@ pub record Rectangle : Type 0 where
   pub rowTable : List ℕ
   pub columnTable : List ℕ
 
+-- the number of its lines
+abbrev pub count : Rectangle → ℕ
+count r = r .rows * r .columns
+
 -- the three entry points on a rectangle; old tables, out and marks are the buffers to be written, as handed in
 unfoldable pub tablesFor : Rectangle → List ℕ → List ℕ → TablesMade
 tablesFor r oldRows oldColumns = makeTables (r .rows) (r .columns) (r .lines) oldRows oldColumns
@@ -76,8 +80,8 @@ GivenUpLast =
 -- a rectangle written has correct lines only and the tables made from them, all spare bits 0
 pub record Written (r : Rectangle) : Type 0 where
   pub sides : sidesFit (r .rows) (r .columns) ≡ true
-  pub lines : r .lines ≡ bufferOf (linesIn (r .rows * r .columns) (r .lines))
-  pub correct : (n : ℕ) → n < r .rows * r .columns → CorrectLine lineLayer n (placesAt (r .lines) n)
+  pub lines : r .lines ≡ bufferOf (linesIn (count r) (r .lines))
+  pub correct : (n : ℕ) → n < count r → CorrectLine lineLayer n (placesAt (r .lines) n)
   pub rowTable : r .rowTable ≡ rowTableOf (r .rows) (r .columns) (r .lines)
   pub columnTable : r .columnTable ≡ columnTableOf (r .rows) (r .columns) (r .lines)
 
@@ -90,7 +94,7 @@ pub record EqualTables (r s : Rectangle) : Type 0 where
 pub record Alike (r s : Rectangle) : Type 0 where
   pub rows : r .rows ≡ s .rows
   pub columns : r .columns ≡ s .columns
-  pub lines : linesIn (r .rows * r .columns) (r .lines) ≡ linesIn (s .rows * s .columns) (s .lines)
+  pub lines : linesIn (count r) (r .lines) ≡ linesIn (count s) (s .lines)
   pub tables : EqualTables r s
 
 -- no number stands twice
@@ -137,14 +141,14 @@ module _ (written received : Rectangle) where
   pub record DamagedSo : Type 0 where
     pub rows : received .rows ≡ written .rows
     pub columns : received .columns ≡ written .columns
-    pub lineBytes : holds (received .rows * received .columns) (received .lines) ≡ true
+    pub lineBytes : holds (count received) (received .lines) ≡ true
     pub tableBytes : tablesFit (received .rows) (received .columns) (received .rowTable) (received .columnTable) ≡ true
     pub tables : EqualTables received written
-    pub five : (n : ℕ) → n < written .rows * written .columns → damage n ≤ 5
+    pub five : (n : ℕ) → n < count written → damage n ≤ 5
     pub order : List ℕ
     pub once : Distinct order
-    pub each : (n : ℕ) → n < written .rows * written .columns → 2 ≤ damage n → n ∈ order
-    pub noOther : (n : ℕ) → n ∈ order → (n < written .rows * written .columns) × (2 ≤ damage n)
+    pub each : (n : ℕ) → n < count written → 2 ≤ damage n → n ∈ order
+    pub noOther : (n : ℕ) → n ∈ order → (n < count written) × (2 ≤ damage n)
     pub turns : Turns order
 
 -- ---- Demand 3: "For every rectangle written, whatever bits were damaged since: if .. then repair answers 0 and returns exactly the
@@ -152,7 +156,7 @@ module _ (written received : Rectangle) where
 abbrev pub ExactReturn : Type 0
 ExactReturn =
     (written received : Rectangle) → Written written → DamagedSo written received → (out marks : List ℕ)
-    → holds (received .rows * received .columns) out ≡ true → length marks ≡ received .rows * received .columns
+    → holds (count received) out ≡ true → length marks ≡ count received
     → (repairOf received out marks .answer ≡ 0) × (repairOf received out marks .lines ≡ written .lines)
 
 -- ---- Demand 3: "No two different rectangles written, each damaged so in its own way, look alike in lines and tables."
@@ -167,7 +171,7 @@ pub record FourLinesApart (one two : Rectangle) : Type 0 where
   pub differing : List ℕ
   pub distinct : Distinct differing
   pub four : 4 ≤ length differing
-  pub inside : (n : ℕ) → n ∈ differing → n < one .rows * one .columns
+  pub inside : (n : ℕ) → n ∈ differing → n < count one
   pub eight : (n : ℕ) → n ∈ differing → 8 ≤ distance (placesAt (one .lines) n) (placesAt (two .lines) n)
 
 abbrev pub EqualOrFourLines : Type 0
@@ -179,9 +183,9 @@ EqualOrFourLines =
 -- places of the one made from the lines so read) this equals tables made anew, place by place."
 pub record Agrees (r : Rectangle) : Type 0 where
   pub sides : sidesFit (r .rows) (r .columns) ≡ true
-  pub lineBytes : holds (r .rows * r .columns) (r .lines) ≡ true
+  pub lineBytes : holds (count r) (r .lines) ≡ true
   pub tableBytes : tablesFit (r .rows) (r .columns) (r .rowTable) (r .columnTable) ≡ true
-  pub accepted : (n : ℕ) → n < r .rows * r .columns → acceptedAt (r .lines) n ≡ true
+  pub accepted : (n : ℕ) → n < count r → acceptedAt (r .lines) n ≡ true
   pub rowTable : (k : ℕ) → k < r .rows → placesAt (r .rowTable) k ≡ rowParity (r .columns) (r .lines) k
   pub columnTable : (k : ℕ) → k < r .columns → placesAt (r .columnTable) k ≡ columnParity (r .rows) (r .columns) (r .lines) k
 
@@ -208,6 +212,6 @@ pub record ChangedAsAnew (r : Rectangle) (n : ℕ) (payload oldRows oldColumns :
 
 abbrev pub ChangeEqualsTablesAnew : Type 0
 ChangeEqualsTablesAnew =
-    (r : Rectangle) → Agrees r → (n : ℕ) (payload : List ℕ) → n < r .rows * r .columns → length payload ≡ dataBytes
+    (r : Rectangle) → Agrees r → (n : ℕ) (payload : List ℕ) → n < count r → length payload ≡ dataBytes
     → (oldRows oldColumns : List ℕ) → tablesFit (r .rows) (r .columns) oldRows oldColumns ≡ true
     → ChangedAsAnew r n payload oldRows oldColumns

@@ -62,10 +62,10 @@ unfoldable pub column : ℕ → ℕ → ℕ → List ℕ
 column rows columns c = stride c columns rows
 
 -- a row and a column with their parity lines, each from its own table
-unfoldable pub rowGroup : ℕ → List ℕ → ℕ → Group
+abbrev pub rowGroup : ℕ → List ℕ → ℕ → Group
 rowGroup columns rowTable r = record { members = row columns r; parity = placesAt rowTable r }
 
-unfoldable pub columnGroup : ℕ → ℕ → List ℕ → ℕ → Group
+abbrev pub columnGroup : ℕ → ℕ → List ℕ → ℕ → Group
 columnGroup rows columns columnTable c = record { members = column rows columns c; parity = placesAt columnTable c }
 
 -- all groups in visiting order: rows 0 upward, then columns 0 upward
