@@ -9,3 +9,4 @@ pub mod Parity
 pub mod Written
 pub mod Order
 pub mod Demand3
+pub mod FourLines

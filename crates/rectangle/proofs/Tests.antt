@@ -24,6 +24,16 @@ every-at test [] e a i = absurd i
 every-at test (b ∷ l) e a (inl p) = ap test p ∙ and-eq-true-iff (test b) (every test l) .0 e .0
 every-at test (b ∷ l) e a (inr i) = every-at test l (and-eq-true-iff (test b) (every test l) .0 e .1) a i
 
+-- or some one fails
+pub some-fails : {A : Type 0} (test : A → Bool) (l : List A) → every test l ≡ false → (a : A) × (a ∈ l) × (test a ≡ false)
+some-fails test [] e = absurd (true≢false e)
+some-fails test (a ∷ l) e = go (test a) refl e (some-fails test l)
+  where
+    go : (b : Bool) → test a ≡ b → b && every test l ≡ false → (every test l ≡ false → (c : _) × (c ∈ l) × (test c ≡ false))
+        → (c : _) × (c ∈ (a ∷ l)) × (test c ≡ false)
+    go false p q later = (a, inl refl, p)
+    go true p q later = let f = later q in (f .0, inr (f .1), f .2)
+
 -- the same for numbers from 0 upward
 pub every-below : (test : ℕ → Bool) (k : ℕ) → ((n : ℕ) → n < k → test n ≡ true) → every test (upFrom 0 k) ≡ true
 every-below test k h = every-true test (upFrom 0 k) (λ n i. h n (omega (arith, upFrom-bounds 0 k n i .1)))

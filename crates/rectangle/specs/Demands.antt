@@ -171,8 +171,9 @@ pub record FourLinesApart (one two : Rectangle) : Type 0 where
   pub differing : List ℕ
   pub distinct : Distinct differing
   pub four : 4 ≤ length differing
-  pub inside : (n : ℕ) → n ∈ differing → n < count one
-  pub eight : (n : ℕ) → n ∈ differing → 8 ≤ distance (placesAt (one .lines) n) (placesAt (two .lines) n)
+  pub differ : (n : ℕ) → n ∈ differing → (n < count one) × (placesAt (one .lines) n ≡ placesAt (two .lines) n → ⊥)
+  pub eight : (n : ℕ) → n < count one → (placesAt (one .lines) n ≡ placesAt (two .lines) n → ⊥)
+      → 8 ≤ distance (placesAt (one .lines) n) (placesAt (two .lines) n)
 
 abbrev pub EqualOrFourLines : Type 0
 EqualOrFourLines =
