@@ -1,0 +1,12 @@
+-- Laws of the rectangle.
+pub mod Members
+pub mod Stride
+pub mod Spare
+pub mod Buffer
+pub mod Groups
+pub mod Tests
+pub mod Parity
+pub mod Written
+pub mod Order
+pub mod Demand3
+pub mod FourLines

@@ -1,0 +1,121 @@
+-- "Of correct lines a parity line is itself a correct line": tables made from lines that read alone as accepted.
+use mathlib.Core.Path.{_≡_, refl, sym, ap, _∙_}
+use mathlib.Core.Logic.{_⊎_, inl, inr}
+use mathlib.Core.Bool.{Bool, true, false, not, false≢true}
+use mathlib.Core.List.{List, [], _∷_, map}
+use Prim.Native.Nat.{ℕ, zero, suc, _+_, _*_, _≤_, _<_}
+use native.Mathlib.Nat.{zero-add, not-suc-le-zero}
+use native.Mathlib.Omega.{arith}
+use borrow.Author.Tests.{eqb-false, ne-eqb, eq-eqb, not-true}
+use lib.Dec.{T, eqb}
+use lib.ListN.{length, length-map}
+use Rattle.gf2.specs.Word.{Word, same}
+use Rattle.gf2.proofs.Weight.{distance-self}
+use Rattle.gf2.proofs.Same.{same-refl}
+use Rattle.linecode.specs.Places.{linePlaces, lineBytes}
+use Rattle.linecode.specs.Code.{upFrom, Correct, isCorrect, codeword, dataOf}
+use Rattle.scheme.specs.Layer.{Cell, readLine, CorrectLine, parityAddress, ReadsAs, Promises}
+use Rattle.scheme.specs.Visit.{Group, isFaulty, sum}
+use Rattle.scheme.specs.Demand3.{_∈_, wordAt}
+use Rattle.scheme.proofs.Written.{parity-correct}
+use Rattle.rectangle.specs.Store.{lineLayer, correctUnder, placesAt, bufferOf, aloneAt, stride, row, column, rowGroup, columnGroup, groups}
+use Rattle.rectangle.specs.Refusals.{every, sidesFit, parityCorrect, acceptedAt}
+use Rattle.rectangle.specs.Tables.{rowParity, columnParity, rowTableOf, columnTableOf}
+use Rattle.rectangle.proofs.Buffer.{length-placesAt, table-at}
+use Rattle.rectangle.proofs.Groups.{row-inside, column-inside, by-groups}
+use Rattle.rectangle.proofs.Tests.{every-true}
+
+-- the test of a correct line
+pub correct-passes : (a : ℕ) (w : Word) → lineLayer .Correct a w → correctUnder a w ≡ true
+unfolding correctUnder isCorrect Correct
+correct-passes a w e = ap (same w) (sym e) ∙ same-refl w
+
+-- a parity line that has the places of a correct line passes
+pub parity-passes : (g : Group) (w : Word) → g .parity ≡ w → lineLayer .Correct (parityAddress lineLayer (g .members)) w
+    → parityCorrect g ≡ true
+unfolding parityCorrect
+parity-passes g w e c = ap (correctUnder (parityAddress lineLayer (g .members))) e ∙ correct-passes _ w c
+
+module _ (promises : Promises lineLayer) where
+  -- a correct line reads alone as itself
+  pub correct-reads : (n : ℕ) (w : Word) → CorrectLine lineLayer n w → ReadsAs w (readLine lineLayer n w)
+  correct-reads n w c = promises .corrects (lineLayer .address n) w w c (promises .sized (lineLayer .address n) w c) (omega (arith, distance-self w))
+
+  pub alone-correct : (lines : List ℕ) (n : ℕ) → CorrectLine lineLayer n (placesAt lines n) → aloneAt lines n .line ≡ placesAt lines n
+  unfolding aloneAt
+  alone-correct lines n c = correct-reads n (placesAt lines n) c .gives
+
+  pub correct-accepted : (lines : List ℕ) (n : ℕ) → CorrectLine lineLayer n (placesAt lines n) → acceptedAt lines n ≡ true
+  unfolding acceptedAt aloneAt
+  correct-accepted lines n c =
+      let r : ReadsAs (placesAt lines n) (readLine lineLayer n (placesAt lines n)) = correct-reads n (placesAt lines n) c in
+      ap not (ne-eqb (readLine lineLayer n (placesAt lines n) .mark) 4 (λ e. let z : ⊥ = omega arith in z))
+
+  -- the exclusive or of correct lines at equal steps is a correct line
+  pub sum-correct : (line : ℕ → Word) (first step count : ℕ) → 0 < count
+      → ((m : ℕ) → m ∈ stride first step count → CorrectLine lineLayer m (line m))
+      → lineLayer .Correct (parityAddress lineLayer (stride first step count)) (sum line (stride first step count))
+  sum-correct line first step zero h c = absurd (not-suc-le-zero h)
+  sum-correct line first step (suc count) h c = parity-correct lineLayer promises line first (stride (first + step) step count) c
+
+  -- ---- lines that read alone as accepted
+  module _ (k : ℕ) (lines : List ℕ) (whole : length lines ≡ k * lineBytes) where
+    pub alone-sized : (n : ℕ) → n < k → acceptedAt lines n ≡ true → CorrectLine lineLayer n (aloneAt lines n .line)
+    unfolding acceptedAt aloneAt
+    alone-sized n h e =
+        go (promises .sound (lineLayer .address n) (placesAt lines n) (length-placesAt k lines whole n h))
+      where
+        go : (readLine lineLayer n (placesAt lines n) .mark ≡ 4)
+            ⊎ ((readLine lineLayer n (placesAt lines n) .mark ≤ 1)
+            × CorrectLine lineLayer n (readLine lineLayer n (placesAt lines n) .line))
+            → CorrectLine lineLayer n (readLine lineLayer n (placesAt lines n) .line)
+        go (inl q) = absurd (eqb-false _ 4 (not-true _ e) q)
+        go (inr c) = c .1
+
+  -- ---- the tables made from them
+  module _ (rows columns : ℕ) (someRows : 0 < rows) (some : 0 < columns) (lines : List ℕ)
+      (whole : length lines ≡ rows * columns * lineBytes) (accepted : (n : ℕ) → n < rows * columns → acceptedAt lines n ≡ true) where
+    pub rowParity-correct : (r : ℕ) → r < rows
+        → lineLayer .Correct (parityAddress lineLayer (row columns r)) (rowParity columns lines r)
+    unfolding rowParity row
+    rowParity-correct r h =
+        sum-correct (λ n. aloneAt lines n .line) (r * columns) 1 columns some
+        (λ m i.
+        let inside : m < rows * columns = row-inside rows columns some r m h i in
+        alone-sized (rows * columns) lines whole m inside (accepted m inside))
+
+    pub columnParity-correct : (c : ℕ) → c < columns
+        → lineLayer .Correct (parityAddress lineLayer (column rows columns c)) (columnParity rows columns lines c)
+    unfolding columnParity column
+    columnParity-correct c h =
+        sum-correct (λ n. aloneAt lines n .line) c columns rows someRows
+        (λ m i.
+        let inside : m < rows * columns = column-inside rows columns some c m h i in
+        alone-sized (rows * columns) lines whole m inside (accepted m inside))
+
+    -- parity lines read back from the tables made
+    pub rowTable-at : (r : ℕ) → r < rows → placesAt (rowTableOf rows columns lines) r ≡ rowParity columns lines r
+    unfolding rowTableOf
+    rowTable-at r h =
+        table-at (rowParity columns lines) rows
+        (λ n i. promises .sized (parityAddress lineLayer (row columns n)) _ (rowParity-correct n i)) r h
+
+    pub columnTable-at : (c : ℕ) → c < columns → placesAt (columnTableOf rows columns lines) c ≡ columnParity rows columns lines c
+    unfolding columnTableOf
+    columnTable-at c h =
+        table-at (columnParity rows columns lines) columns
+        (λ n i. promises .sized (parityAddress lineLayer (column rows columns n)) _ (columnParity-correct n i)) c h
+
+    -- tables whose parity lines have these places are accepted by refusal 9
+    module _ (rowTable columnTable : List ℕ) (rowsAgree : (r : ℕ) → r < rows → placesAt rowTable r ≡ rowParity columns lines r)
+        (columnsAgree : (c : ℕ) → c < columns → placesAt columnTable c ≡ columnParity rows columns lines c) where
+      pub row-passes : (r : ℕ) → r < rows → parityCorrect (rowGroup columns rowTable r) ≡ true
+      row-passes r h = parity-passes (rowGroup columns rowTable r) _ (rowsAgree r h) (rowParity-correct r h)
+
+      pub column-passes : (c : ℕ) → c < columns → parityCorrect (columnGroup rows columns columnTable c) ≡ true
+      column-passes c h = parity-passes (columnGroup rows columns columnTable c) _ (columnsAgree c h) (columnParity-correct c h)
+
+      pub parities-pass : every parityCorrect (groups rows columns rowTable columnTable) ≡ true
+      parities-pass =
+          every-true parityCorrect (groups rows columns rowTable columnTable)
+          (by-groups rows columns some rowTable columnTable (λ g. parityCorrect g ≡ true) row-passes column-passes)

@@ -1,0 +1,89 @@
+-- Tests and refusals: what a test that passes tells, and that a call whose tests all pass is not refused.
+use mathlib.Core.Path.{_≡_, refl, sym, ap, _∙_}
+use mathlib.Core.Logic.{inl, inr}
+use mathlib.Core.Bool.{Bool, true, false, not, _&&_, true≢false, and-eq-true-iff}
+use mathlib.Core.List.{List, [], _∷_}
+use Prim.Native.Nat.{ℕ, _+_, _*_, _<_}
+use native.Mathlib.Nat.{zero-add}
+use native.Mathlib.Omega.{arith}
+use Rattle.linecode.specs.Places.{lineBytes}
+use Rattle.linecode.specs.Code.{upFrom}
+use lib.ListN.{length}
+use Rattle.scheme.specs.Demand3.{_∈_}
+use Rattle.rectangle.specs.Refusals.{unless, every, sidesFit, holds, tablesFit, acceptedAt, tablesRefusal}
+use Rattle.rectangle.proofs.Members.{in-upFrom, upFrom-bounds}
+use Rattle.rectangle.proofs.Buffer.{holds-length, length-holds}
+
+-- ---- every one of a list
+pub every-true : {A : Type 0} (test : A → Bool) (l : List A) → ((a : A) → a ∈ l → test a ≡ true) → every test l ≡ true
+every-true test [] h = refl
+every-true test (a ∷ l) h = rw (h a (inl refl)) (every-true test l (λ b i. h b (inr i)))
+
+pub every-at : {A : Type 0} (test : A → Bool) (l : List A) → every test l ≡ true → (a : A) → a ∈ l → test a ≡ true
+every-at test [] e a i = absurd i
+every-at test (b ∷ l) e a (inl p) = ap test p ∙ and-eq-true-iff (test b) (every test l) .0 e .0
+every-at test (b ∷ l) e a (inr i) = every-at test l (and-eq-true-iff (test b) (every test l) .0 e .1) a i
+
+-- or some one fails
+pub some-fails : {A : Type 0} (test : A → Bool) (l : List A) → every test l ≡ false → (a : A) × (a ∈ l) × (test a ≡ false)
+some-fails test [] e = absurd (true≢false e)
+some-fails test (a ∷ l) e = go (test a) refl e (some-fails test l)
+  where
+    go : (b : Bool) → test a ≡ b → b && every test l ≡ false → (every test l ≡ false → (c : _) × (c ∈ l) × (test c ≡ false))
+        → (c : _) × (c ∈ (a ∷ l)) × (test c ≡ false)
+    go false p q later = (a, inl refl, p)
+    go true p q later = let f = later q in (f .0, inr (f .1), f .2)
+
+-- the same for numbers from 0 upward
+pub every-below : (test : ℕ → Bool) (k : ℕ) → ((n : ℕ) → n < k → test n ≡ true) → every test (upFrom 0 k) ≡ true
+every-below test k h = every-true test (upFrom 0 k) (λ n i. h n (omega (arith, upFrom-bounds 0 k n i .1)))
+
+pub below-every : (test : ℕ → Bool) (k : ℕ) → every test (upFrom 0 k) ≡ true → (n : ℕ) → n < k → test n ≡ true
+below-every test k e n h = every-at test (upFrom 0 k) e n (rw zero-add at (in-upFrom 0 k n h))
+
+-- ---- a refusal
+-- an answer 0 passed the test
+pub passed : (b : Bool) (refusal next : ℕ) → (refusal ≡ 0 → ⊥) → unless b refusal next ≡ 0 → (b ≡ true) × (next ≡ 0)
+passed true refusal next d e = (refl, e)
+passed false refusal next d e = absurd (d e)
+
+-- both tables have the lengths that refusal 6 asks for
+pub tables-lengths : (rows columns : ℕ) (rowTable columnTable : List ℕ) → tablesFit rows columns rowTable columnTable ≡ true
+    → (length rowTable ≡ rows * lineBytes) × (length columnTable ≡ columns * lineBytes)
+unfolding tablesFit
+tables-lengths rows columns rowTable columnTable e =
+    let p = and-eq-true-iff (holds rows rowTable) (holds columns columnTable) .0 e in
+    (holds-length rows rowTable (p .0), holds-length columns columnTable (p .1))
+
+pub lengths-tables : (rows columns : ℕ) (rowTable columnTable : List ℕ) → length rowTable ≡ rows * lineBytes
+    → length columnTable ≡ columns * lineBytes → tablesFit rows columns rowTable columnTable ≡ true
+unfolding tablesFit
+lengths-tables rows columns rowTable columnTable e f =
+    rw (length-holds rows rowTable e, length-holds columns columnTable f)
+
+-- making tables is refused for nothing else than its four tests
+pub record TablesAsked (rows columns : ℕ) (lines rowTable columnTable : List ℕ) : Type 0 where
+  pub sides : sidesFit rows columns ≡ true
+  pub lineBytes : holds (rows * columns) lines ≡ true
+  pub tableBytes : tablesFit rows columns rowTable columnTable ≡ true
+  pub accepted : (n : ℕ) → n < rows * columns → acceptedAt lines n ≡ true
+
+module _ (rows columns : ℕ) (lines rowTable columnTable : List ℕ) where
+  pub tables-pass : TablesAsked rows columns lines rowTable columnTable → tablesRefusal rows columns lines rowTable columnTable ≡ 0
+  unfolding tablesRefusal
+  tables-pass a =
+      rw (a .sides, a .lineBytes, a .tableBytes, every-below (acceptedAt lines) (rows * columns) (a .accepted))
+
+  pub tables-passed : tablesRefusal rows columns lines rowTable columnTable ≡ 0 → TablesAsked rows columns lines rowTable columnTable
+  unfolding tablesRefusal
+  tables-passed e =
+      let two = passed (sidesFit rows columns) 2 _ (λ z. omega arith) e in
+      let five = passed (holds (rows * columns) lines) 5 _ (λ z. omega arith) (two .1) in
+      let six = passed (tablesFit rows columns rowTable columnTable) 6 _ (λ z. omega arith) (five .1) in
+      let ten = passed (every (acceptedAt lines) (upFrom 0 (rows * columns))) 10 _ (λ z. omega arith) (six .1) in
+      record {
+        sides = two .0;
+        lineBytes = five .0;
+        tableBytes = six .0;
+        accepted = below-every (acceptedAt lines) (rows * columns) (ten .0);
+      }

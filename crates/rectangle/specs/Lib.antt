@@ -1,0 +1,7 @@
+-- The rectangle, in document 01's order: read Store, then Refusals, Tables, Change, Repair, and last Demands.
+pub mod Store
+pub mod Refusals
+pub mod Tables
+pub mod Change
+pub mod Repair
+pub mod Demands

@@ -1,0 +1,72 @@
+-- Document 01, "Turned back, in checking order": for each entry point the first refusal of the list that fits, or 0.
+use mathlib.Core.Bool.{Bool, true, not, cond, _&&_}
+use mathlib.Core.List.{List, [], _∷_}
+use Prim.Native.Nat.{ℕ, _*_, _/_, _%_}
+use lib.Dec.{eqb, leb, ltb}
+use lib.ListN.{length}
+use Rattle.linecode.specs.Places.{dataBytes, lineBytes}
+use Rattle.linecode.specs.Code.{upFrom}
+use Rattle.scheme.specs.Layer.{parityAddress}
+use Rattle.scheme.specs.Visit.{Group, isFaulty}
+use Rattle.rectangle.specs.Store.{lineLayer, correctUnder, aloneAt, rowGroup, columnGroup, groups}
+
+-- a test that fails gives its refusal, and otherwise the next test is made
+abbrev pub unless : Bool → ℕ → ℕ → ℕ
+unless passed refusal next = cond passed next refusal
+
+-- every one of a list passes a test
+abbrev pub every : {A : Type 0} → (A → Bool) → List A → Bool
+every test [] = true
+every test (a ∷ l) = test a && every test l
+
+-- 2: rows and columns lie in 2 to 512
+unfoldable pub sideFits : ℕ → Bool
+sideFits n = leb 2 n && leb n 512
+
+unfoldable pub sidesFit : ℕ → ℕ → Bool
+sidesFit rows columns = sideFits rows && sideFits columns
+
+-- 5, 6 and 7: a buffer has the bytes of k lines
+unfoldable pub holds : ℕ → List ℕ → Bool
+holds k buffer = eqb (length buffer) (k * lineBytes)
+
+-- 6: a table is 70 bytes for each of its rows or columns
+unfoldable pub tablesFit : ℕ → ℕ → List ℕ → List ℕ → Bool
+tablesFit rows columns rowTable columnTable = holds rows rowTable && holds columns columnTable
+
+-- 9: a parity line, spare bits apart, is a correct line
+unfoldable pub parityCorrect : Group → Bool
+parityCorrect g = correctUnder (parityAddress lineLayer (g .members)) (g .parity)
+
+-- 10: a line is not faulty where it is read alone
+unfoldable pub acceptedAt : List ℕ → ℕ → Bool
+acceptedAt lines n = not (isFaulty (aloneAt lines n))
+
+-- making both tables: lines read, tables written
+unfoldable pub tablesRefusal : ℕ → ℕ → List ℕ → List ℕ → List ℕ → ℕ
+tablesRefusal rows columns lines rowTable columnTable =
+    unless (sidesFit rows columns) 2
+    (unless (holds (rows * columns) lines) 5
+    (unless (tablesFit rows columns rowTable columnTable) 6
+    (unless (every (acceptedAt lines) (upFrom 0 (rows * columns))) 10 0)))
+
+-- changing line n: only its own two parity lines are tested for 9, and it alone for 10
+unfoldable pub changeRefusal : ℕ → ℕ → List ℕ → List ℕ → List ℕ → ℕ → List ℕ → ℕ
+changeRefusal rows columns lines rowTable columnTable n payload =
+    unless (sidesFit rows columns) 2
+    (unless (holds (rows * columns) lines) 5
+    (unless (tablesFit rows columns rowTable columnTable) 6
+    (unless (eqb (length payload) dataBytes) 7
+    (unless (ltb n (rows * columns)) 8
+    (unless (parityCorrect (rowGroup columns rowTable (n / columns))
+    && parityCorrect (columnGroup rows columns columnTable (n % columns))) 9
+    (unless (acceptedAt lines n) 10 0))))))
+
+-- repair: out and marks are the line and mark buffers that it writes
+unfoldable pub repairRefusal : ℕ → ℕ → List ℕ → List ℕ → List ℕ → List ℕ → List ℕ → ℕ
+repairRefusal rows columns lines rowTable columnTable out marks =
+    unless (sidesFit rows columns) 2
+    (unless (holds (rows * columns) lines) 5
+    (unless (tablesFit rows columns rowTable columnTable) 6
+    (unless (holds (rows * columns) out && eqb (length marks) (rows * columns)) 7
+    (unless (every parityCorrect (groups rows columns rowTable columnTable)) 9 0))))

@@ -1,0 +1,41 @@
+-- Document 01, "Repair": lines and tables are read, a line buffer and one mark byte per line are written.
+use mathlib.Core.Bool.{cond}
+use mathlib.Core.List.{List}
+use Prim.Native.Nat.{ℕ, _*_}
+use lib.Dec.{eqb}
+use Rattle.scheme.specs.Layer.{readLine}
+use Rattle.scheme.specs.Visit.{Group}
+use Rattle.scheme.specs.Repair.{Repaired, repair, linesOf, marksOf, answer}
+use Rattle.rectangle.specs.Store.{lineLayer, linesIn, bufferOf, groups}
+use Rattle.rectangle.specs.Refusals.{repairRefusal}
+
+-- the SuDoku steps on the lines of a rectangle
+unfoldable pub repaired : ℕ → ℕ → List ℕ → List ℕ → List ℕ → Repaired
+repaired rows columns lines rowTable columnTable =
+    repair (readLine lineLayer) (groups rows columns rowTable columnTable) (linesIn (rows * columns) lines)
+
+-- what repair answers, its passes, and the line and mark buffers as it leaves them
+pub record StoreRepaired : Type 0 where
+  pub answer : ℕ
+  pub passes : ℕ
+  pub lines : List ℕ
+  pub marks : List ℕ
+
+-- what the steps hand over: answers 0, 11 and 12
+unfoldable pub handedOver : List Group → Repaired → StoreRepaired
+handedOver gs r =
+    record {
+      answer = answer gs (r .cells);
+      passes = r .passes;
+      lines = bufferOf (linesOf (r .cells));
+      marks = marksOf (r .cells);
+    }
+
+-- the entry point: a refusal up to 10 writes nothing
+unfoldable pub repairStore : ℕ → ℕ → List ℕ → List ℕ → List ℕ → List ℕ → List ℕ → StoreRepaired
+repairStore rows columns lines rowTable columnTable out marks =
+    let refusal = repairRefusal rows columns lines rowTable columnTable out marks in
+    let gs = groups rows columns rowTable columnTable in
+    cond (eqb refusal 0)
+    (handedOver gs (repaired rows columns lines rowTable columnTable))
+    (record { answer = refusal; passes = 0; lines = out; marks = marks })
