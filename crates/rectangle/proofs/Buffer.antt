@@ -15,7 +15,7 @@ use Rattle.linecode.specs.Places.{linePlaces, lineBytes, places, lineOf}
 use Rattle.linecode.specs.Code.{upFrom}
 use Rattle.linecode.proofs.Line.{bytes-is, length-places}
 use Rattle.scheme.specs.Demand3.{_∈_, wordAt}
-use Rattle.rectangle.specs.Store.{bytesAt, placesAt, linesIn, bufferOf, putLine}
+use Rattle.rectangle.specs.Store.{bytesAt, placesAt, linesIn, bufferOf, putBytes, putLine}
 use Rattle.rectangle.specs.Refusals.{holds}
 use Rattle.rectangle.proofs.Members.{length-upFrom, map-upFrom}
 use Rattle.rectangle.proofs.Spare.{length-lineOf, places-lineOf}
@@ -135,7 +135,7 @@ module _ (line : ℕ → Word) (k : ℕ) where
 
 -- a line put into a buffer made from lines
 pub putLine-bufferOf : (ws : List Word) (n : ℕ) (w : Word) → n < length ws → putLine (bufferOf ws) n w ≡ bufferOf (set ws n w)
-unfolding putLine
+unfolding putLine putBytes
 putLine-bufferOf [] n w h = absurd (not-suc-le-zero h)
 putLine-bufferOf (v ∷ ws) zero w h =
     ap₂ (λ (a b : List ℕ). (a ++ lineOf w) ++ b)
@@ -162,7 +162,7 @@ module _ (k : ℕ) (buffer : List ℕ) (whole : length buffer ≡ k * lineBytes)
       length-append front (lineOf w) ∙ ap₂ _+_ length-front (length-lineOf w) ∙ omega (arith, suc-mul n lineBytes)
 
   pub length-putLine : length (putLine buffer n w) ≡ k * lineBytes
-  unfolding putLine front
+  unfolding putLine putBytes front
   length-putLine =
       length-append (front ++ lineOf w) (drop (suc n * lineBytes) buffer)
       ∙ ap₂ _+_ length-both (length-drop (suc n * lineBytes) buffer)
@@ -170,7 +170,7 @@ module _ (k : ℕ) (buffer : List ℕ) (whole : length buffer ≡ k * lineBytes)
 
   -- the other bytes keep their values
   pub byte-before : (i : ℕ) → i < n * lineBytes → getD (putLine buffer n w) i 0 ≡ getD buffer i 0
-  unfolding putLine front
+  unfolding putLine putBytes front
   byte-before i h =
       List·getD-append (front ++ lineOf w) (drop (suc n * lineBytes) buffer) 0 i
       (omega (arith, length-both, suc-mul n lineBytes))
@@ -178,7 +178,7 @@ module _ (k : ℕ) (buffer : List ℕ) (whole : length buffer ≡ k * lineBytes)
       ∙ getD-take (n * lineBytes) buffer i 0 h
 
   pub byte-after : (i : ℕ) → suc n * lineBytes ≤ i → getD (putLine buffer n w) i 0 ≡ getD buffer i 0
-  unfolding putLine front
+  unfolding putLine putBytes front
   byte-after i h =
       let e : i ≡ length (front ++ lineOf w) + (i - suc n * lineBytes) = omega (arith, length-both) in
       let f : suc n * lineBytes + (i - suc n * lineBytes) ≡ i = omega arith in
@@ -188,7 +188,7 @@ module _ (k : ℕ) (buffer : List ℕ) (whole : length buffer ≡ k * lineBytes)
       ∙ ap (λ (j : ℕ). getD buffer j 0) f
 
   pub bytesAt-put : bytesAt (putLine buffer n w) n ≡ lineOf w
-  unfolding bytesAt putLine front
+  unfolding bytesAt putLine putBytes front
   bytesAt-put =
       ap (λ (l : List ℕ). take lineBytes (drop (n * lineBytes) l)) (append-assoc front (lineOf w) (drop (suc n * lineBytes) buffer))
       ∙ ap (take lineBytes) (drop-at front (lineOf w ++ drop (suc n * lineBytes) buffer) (n * lineBytes) length-front)

@@ -3,6 +3,7 @@ pub mod Members
 pub mod Stride
 pub mod Spare
 pub mod Buffer
+pub mod Copying
 pub mod Groups
 pub mod Tests
 pub mod Parity

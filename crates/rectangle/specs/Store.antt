@@ -41,9 +41,13 @@ abbrev pub bufferOf : List Word → List ℕ
 bufferOf [] = []
 bufferOf (w ∷ ws) = lineOf w ++ bufferOf ws
 
+-- a buffer with the bytes of line n replaced
+unfoldable pub putBytes : List ℕ → ℕ → List ℕ → List ℕ
+putBytes buffer n line = take (n * lineBytes) buffer ++ line ++ drop (suc n * lineBytes) buffer
+
 -- a buffer with line n written, spare bits 0; the other bytes keep their values
 unfoldable pub putLine : List ℕ → ℕ → Word → List ℕ
-putLine buffer n w = take (n * lineBytes) buffer ++ lineOf w ++ drop (suc n * lineBytes) buffer
+putLine buffer n w = putBytes buffer n (lineOf w)
 
 -- line n as it reads alone
 unfoldable pub aloneAt : List ℕ → ℕ → Cell

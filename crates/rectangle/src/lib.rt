@@ -1,1 +1,2 @@
-// Rows and columns of lines over borrowed buffers: definitions in specs/, laws in proofs/. There is no code here yet.
+// A rectangle of lines with a parity line for each row and column. Document 01, "The rectangle".
+pub mod lines;

@@ -1,0 +1,52 @@
+// Lines in a lent buffer. The functions of this module are public because the crates above go through them alone; each asks that
+// the line lies inside the buffer, which the entry points have tested.
+ghost use mathlib.Core.Path.{_≡_};
+ghost use mathlib.Core.List.{_++_};
+ghost use Prim.Native.Nat.{suc, _*_, _≤_};
+ghost use lib.ListN.{length, take, drop};
+ghost use Rattle.rectangle.specs.Store.{bytesAt, putBytes};
+
+// The number of a row, and of a column: they are counted apart, so that neither table is reached with the other's number.
+pub struct RowIndex(pub usize);
+
+pub struct ColumnIndex(pub usize);
+
+// Line n of a buffer.
+pub fn line_at(buffer: &[u8], n: usize) -> [u8; 70]
+    requires { ⌜ suc n * 70 ≤ length (now buffer) ⌝ }
+    ensures { λ r. ⌜ r ≡ bytesAt (now (buffer .entry)) n ⌝ }
+{
+    let at = n * 70;
+    linecode::place::load(&buffer[at..])
+}
+
+// Line n of a buffer, written.
+pub fn put_line(buffer: &mut [u8], n: usize, line: [u8; 70])
+    requires { ⌜ suc n * 70 ≤ length (now buffer) ⌝ }
+    ensures { λ _. ⌜ now (buffer .exit) ≡ putBytes (now (buffer .entry)) n line ⌝ }
+{
+    let at = n * 70;
+    let mut i = 0;
+    while i < 70 {
+        buffer[at + i] = line[i];
+        i += 1;
+    }
+}
+
+// The parity line of a row.
+pub fn row_parity(row_table: &[u8], row: RowIndex) -> [u8; 70]
+    requires { ⌜ suc (row .0) * 70 ≤ length (now «row_table») ⌝ }
+    ensures { λ r. ⌜ r ≡ bytesAt (now («row_table» .entry)) (row .0) ⌝ }
+{
+    let r = row.0;
+    line_at(row_table, r)
+}
+
+// The parity line of a column.
+pub fn column_parity(column_table: &[u8], column: ColumnIndex) -> [u8; 70]
+    requires { ⌜ suc (column .0) * 70 ≤ length (now «column_table») ⌝ }
+    ensures { λ r. ⌜ r ≡ bytesAt (now («column_table» .entry)) (column .0) ⌝ }
+{
+    let c = column.0;
+    line_at(column_table, c)
+}
