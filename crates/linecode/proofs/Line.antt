@@ -7,7 +7,7 @@ use native.Mathlib.Nat.{mod-eq-of-lt}
 use native.Mathlib.Omega.{arith}
 use lib.Bits.{bitXor}
 use lib.ListN.{length, take, drop, getD, set, length-append, length-take, length-drop, take-append-drop, drop-of-length-le, length-replicate}
-use lib.Seq.{take-all, take-at, drop-at, drop-cons, take-append-add, drop-append-add, take-append-le, take-take, length-take-le, append-snoc, getD-take}
+use lib.Seq.{take-all, take-at, drop-at, drop-cons, take-append-add, drop-append-add, take-append-le, take-take, length-take-le, append-snoc, getD-take, getD-drop, getD-append-add}
 use Rattle.gf2.specs.Word.{Word, _⊕_, zeros, flip, digits, number}
 use Rattle.gf2.specs.Check.{bit}
 use Rattle.gf2.proofs.Xor.{xor-append, take-xor, drop-xor}
@@ -197,6 +197,34 @@ module _ (l : List ℕ) (whole : length l ≡ 70) where
       ∙ ap (λ (n : ℕ). take n (bitsOf (take 67 l))) data-is
       ∙ take-bitsOf 64 (take 67 l)
       ∙ ap bitsOf sixty-four
+
+  -- place 543 + k is bit k of the bytes from byte 68 on
+  pub hamming-bit : (i : ℕ) → 543 ≤ i → i < 553 → getD (places l) i false ≡ bit ((i + 1) % 8) (getD l ((i + 1) / 8) 0)
+  unfolding places
+  hamming-bit i h j =
+      ap (λ (n : ℕ). getD (take protectedPlaces (bitsOf l) ++ rest) n false) (place i h)
+      ∙ getD-append-add (take protectedPlaces (bitsOf l)) rest (i - 543) false
+      ∙ getD-take hammingPlaces (drop (suc protectedPlaces) (bitsOf l)) (i - 543) false (omega (arith, hamming-is))
+      ∙ getD-drop (suc protectedPlaces) (bitsOf l) (i - 543) false
+      ∙ ap (λ (n : ℕ). getD (bitsOf l) n false) (parts i h)
+      ∙ getD-bitsOf l ((i + 1) / 8) ((i + 1) % 8) (omega arith) (omega arith)
+    where
+      rest : Word
+      rest = take hammingPlaces (drop (suc protectedPlaces) (bitsOf l))
+
+      front : length (take protectedPlaces (bitsOf l)) ≡ protectedPlaces
+      front = length-take-le protectedPlaces (bitsOf l) (omega (arith, protected-is, length-bitsOf l))
+
+      place : (i : ℕ) → 543 ≤ i → i ≡ length (take protectedPlaces (bitsOf l)) + (i - 543)
+      place i h = omega (arith, front, protected-is)
+
+      parts : (i : ℕ) → 543 ≤ i → suc protectedPlaces + (i - 543) ≡ 8 * ((i + 1) / 8) + (i + 1) % 8
+      parts i h = omega (arith, protected-is)
+
+  -- a protected place stands at the same number among all places
+  pub protected-place : (i : ℕ) → i < 543 → getD (places l) i false ≡ getD (protected (places l)) i false
+  unfolding protected
+  protected-place i h = sym (getD-take protectedPlaces (places l) i false (omega (arith, protected-is)))
 
 -- ---- exclusive or of lines
 pub places-xor : (a b : List ℕ) → length a ≡ 70 → length b ≡ 70 → places (xorBytes a b) ≡ places a ⊕ places b

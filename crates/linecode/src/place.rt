@@ -1,5 +1,7 @@
 // The places of a line in its 70 bytes: spare bits, exclusive or, a place turned over.
+ghost use mathlib.Core.Bool.{false};
 ghost use mathlib.Core.Path.{_≡_};
+ghost use lib.ListN.{getD};
 ghost use Rattle.gf2.specs.Word.{_⊕_, flip};
 ghost use Rattle.linecode.specs.Places.{places, lineOf, loaded};
 
@@ -41,6 +43,19 @@ pub fn xor_lines(a: [u8; 70], b: [u8; 70]) -> [u8; 70]
         i += 1;
     }
     clear_spare(sum)
+}
+
+// Whether place i is set; past the last place none is.
+pub fn is_set(line: [u8; 70], i: usize) -> bool
+    ensures { λ r. ⌜ r ≡ getD (places line) i false ⌝ }
+{
+    if i < 543 {
+        return (line[i / 8] >> (i % 8)) % 2 == 1;
+    }
+    if i < 553 {
+        return (line[(i + 1) / 8] >> ((i + 1) % 8)) % 2 == 1;
+    }
+    false
 }
 
 // The line with place i turned over, spare bits 0; past the last place nothing is turned.

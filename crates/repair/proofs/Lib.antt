@@ -1,0 +1,4 @@
+-- Laws of repair on lent buffers.
+pub mod Walk
+pub mod Collect
+pub mod Places

@@ -1,0 +1,79 @@
+-- `repair::group::set_places` meets its contract.
+use borrow.Author.Needs.{needs}
+use native.Mathlib.Omega.{arith}
+use Prim.Native.Nat.{ℕ, _-_, _≤_, _<_}
+use mathlib.Core.Path.{_≡_, sym, _∙_}
+use mathlib.Core.Logic.{⊎-elim}
+use lib.ListN.{length}
+use Rattle.linecode.specs.Places.{places}
+use Rattle.linecode.proofs.Bytes.{array-length}
+use Rattle.linecode.proofs.Line.{places-is, length-places}
+use Rattle.repair.proofs.Places.{Listing, listing-start, listing-kept, listing-full, listing-clear, listing-end, relist, relist-array}
+use Rattle.repair.proofs.group.set_places.Statement.{statement}
+use Rattle.repair.proofs.group.set_places.Tie as tie
+
+abbrev Inv-loop : tie.InvT-loop
+Inv-loop line at₀ count₀ i₀ at count i = (i ≤ 553) × (length (places line) ≡ 553) × Listing (places line) at count i
+
+abbrev μ-loop : tie.MeasureT-loop
+μ-loop line at₀ count₀ i₀ at count i = 553 - i
+
+loop-holds : tie.Need-loop-holds Inv-loop μ-loop
+loop-holds c = (omega arith, length-places (c .args .line) (array-length 70 (c .args .line) _ (c .good .0)) ∙ places-is, listing-start (places (c .args .line)))
+
+is-set-requires : tie.Need-is-set-requires Inv-loop μ-loop
+is-set-requires c κs = search needs
+
+mul-at : tie.Need-mul-at Inv-loop μ-loop
+mul-at c = omega arith
+
+array-write-at : tie.Need-array-write-at Inv-loop μ-loop
+array-write-at c = omega arith
+
+add-count : tie.Need-add-count Inv-loop μ-loop
+add-count c = omega arith
+
+add-i : tie.Need-add-i Inv-loop μ-loop
+add-i c = omega arith
+
+loop-less : tie.Need-loop-less Inv-loop μ-loop
+loop-less c = omega arith
+
+loop-again : tie.Need-loop-again Inv-loop μ-loop
+loop-again c =
+    let here = c .before .before .before .loop in
+    let w = places (c .before .before .before .before .args .line) in
+    let in-line : here .i < length w = omega arith in
+    let bit = sym (c .before .is-set .ensures) in
+    (omega arith,
+    here .inv .1,
+    ⊎-elim
+    (λ t.
+    relist w _ _ _ _ (t .3)
+    (⊎-elim
+    (λ v. relist-array w _ _ _ _ (t .2 ∙ v .1) (listing-kept w (here .at) (here .count) (here .i) (here .inv .2) in-line (bit ∙ t .0 .taken) (v .0 .taken)))
+    (λ v. relist-array w _ _ _ _ (t .2 ∙ v .1) (listing-full w (here .at) (here .count) (here .i) (here .inv .2) in-line (bit ∙ t .0 .taken) (v .0 .left)))
+    (t .1 .came)))
+    (λ t.
+    relist w _ _ _ _ (t .2)
+    (relist-array w _ _ _ _ (t .1) (listing-clear w (here .at) (here .count) (here .i) (here .inv .2) in-line (bit ∙ t .0 .left))))
+    (c .if1 .came))
+
+returns : tie.Need-returns Inv-loop μ-loop
+returns c = listing-end (places (c .before .before .args .line)) _ _ _ (c .before .loop .inv .2) (omega arith)
+
+pub set-places-spec : {M : Type 1} → statement M
+set-places-spec =
+    tie.close
+    (tie.spec
+    Inv-loop
+    μ-loop
+    loop-holds
+    is-set-requires
+    mul-at
+    array-write-at
+    add-count
+    add-i
+    loop-less
+    loop-again
+    returns)
