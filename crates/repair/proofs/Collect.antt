@@ -93,9 +93,9 @@ module _ (marks : List ℕ) (first step count n i : ℕ) (s : Seeking marks firs
       record {
         walk = walk-next first step count (length marks) n i (s .walk) h;
         same =
-          s .same
-          ∙ ap (λ (l : List ℕ). getD (faultyAmong marks l) 0 0) (left-some first step count (length marks) n i (s .walk) h)
-          ∙ ap (λ (l : List ℕ). getD l 0 0) (among-other marks n (stride (n + step) step (count - (i + 1))) e);
+            s .same
+            ∙ ap (λ (l : List ℕ). getD (faultyAmong marks l) 0 0) (left-some first step count (length marks) n i (s .walk) h)
+            ∙ ap (λ (l : List ℕ). getD l 0 0) (among-other marks n (stride (n + step) step (count - (i + 1))) e);
       }
 
   pub seeking-end : count ≤ i → 0 ≡ getD (faultyAmong marks (stride first step count)) 0 0
@@ -127,14 +127,16 @@ sum-long line first step zero h =
     start f = omega arith
 sum-long line first step (suc c) h =
     length-xor (line first) (sum line (stride (first + step) step (suc c)))
-    ∙ omega
-    (arith,
-    ap (λ (n : ℕ). length (line n)) (start first),
-    h 0 (omega arith),
-    sum-long line (first + step) step c (λ (i : ℕ) (k : i < suc c). ap (λ (n : ℕ). length (line n)) (next i) ∙ h (suc i) (omega arith)))
+    ∙ omega (
+      arith,
+      ap (λ (n : ℕ). length (line n)) (start first),
+      h 0 (omega arith),
+      sum-long line (first + step) step c (λ (i : ℕ) (k : i < suc c). ap (λ (n : ℕ). length (line n)) (next i) ∙ h (suc i) (omega arith)),
+    )
   where
     start : (f : ℕ) → f ≡ f + 0 * step
     start f = omega arith
+
     next : (i : ℕ) → first + step + i * step ≡ first + suc i * step
     next i = omega arith
 
@@ -161,8 +163,8 @@ summing-start buffer first step count h =
       clean = zero-line ∙ ap lineOf (sym zero-places);
       long = ap length zero-places ∙ length-replicate linePlaces false;
       total =
-        sym (zeros-xor linePlaces (sum (placesAt buffer) (stride first step count)) (group-long buffer first step count h))
-        ∙ ap₂ (λ (w : Word) (m : ℕ). w ⊕ sum (placesAt buffer) (stride first step m)) (sym zero-places) (all count);
+          sym (zeros-xor linePlaces (sum (placesAt buffer) (stride first step count)) (group-long buffer first step count h))
+          ∙ ap₂ (λ (w : Word) (m : ℕ). w ⊕ sum (placesAt buffer) (stride first step m)) (sym zero-places) (all count);
     }
   where
     all : (c : ℕ) → c ≡ c - 0
@@ -178,17 +180,19 @@ summing-next buffer first step count acc n i line next s h e q =
       clean = q ∙ ap lineOf (sym now);
       long = ap length now ∙ wide;
       total =
-        s .total
-        ∙ ap (λ (l : List ℕ). places acc ⊕ sum (placesAt buffer) l) (left-some first step count (length buffer / 70) n i (s .walk) h)
-        ∙ sym (xor-assoc (places acc) (placesAt buffer n) (sum (placesAt buffer) (stride (n + step) step (count - (i + 1)))))
-        ∙ ap (λ (w : Word). w ⊕ sum (placesAt buffer) (stride (n + step) step (count - (i + 1))))
-        (ap (λ (l : List ℕ). places acc ⊕ places l) (sym e) ∙ sym now);
+          s .total
+          ∙ ap (λ (l : List ℕ). places acc ⊕ sum (placesAt buffer) l) (left-some first step count (length buffer / 70) n i (s .walk) h)
+          ∙ sym (xor-assoc (places acc) (placesAt buffer n) (sum (placesAt buffer) (stride (n + step) step (count - (i + 1)))))
+          ∙ ap (λ (w : Word). w ⊕ sum (placesAt buffer) (stride (n + step) step (count - (i + 1))))
+          (ap (λ (l : List ℕ). places acc ⊕ places l) (sym e) ∙ sym now);
     }
   where
     here : length (places line) ≡ linePlaces
     here = ap (λ (l : List ℕ). length (places l)) e ∙ line-long buffer n (walk-in first step count (length buffer / 70) n i (s .walk) h)
+
     wide : length (places acc ⊕ places line) ≡ linePlaces
     wide = length-xor-same (places acc) (places line) (s .long ∙ sym here) ∙ s .long
+
     now : places next ≡ places acc ⊕ places line
     now = ap places q ∙ places-lineOf (places acc ⊕ places line) wide
 

@@ -2,3 +2,6 @@
 pub mod Walk
 pub mod Collect
 pub mod Places
+pub mod Held
+pub mod Settling
+pub mod Trying

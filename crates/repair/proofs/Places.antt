@@ -56,9 +56,9 @@ module _ (w : Word) (array : List ℕ) (count i : ℕ) (l : Listing w array coun
         few = omega (arith, l .few);
         room = length-set array count i ∙ l .room;
         kept = λ k.
-          ap (λ (n : ℕ). take n (set array count i)) (add-one count)
-          ∙ take-suc-set array count i (omega (arith, l .room))
-          ∙ ap (λ (p : List ℕ). p ++ (i ∷ [])) (l .kept (omega arith));
+            ap (λ (n : ℕ). take n (set array count i)) (add-one count)
+            ∙ take-suc-set array count i (omega (arith, l .room))
+            ∙ ap (λ (p : List ℕ). p ++ (i ∷ [])) (l .kept (omega arith));
         total = total-set e;
       }
 
@@ -82,14 +82,14 @@ module _ (w : Word) (array : List ℕ) (count i : ℕ) (l : Listing w array coun
         room = l .room;
         kept = l .kept;
         total =
-          l .total
-          ∙ ap (λ (p : List ℕ). l .found ++ p)
-          (next ∙ ap (λ (b : Bool). setPlaces i (b ∷ drop (suc i) w)) e ∙ ap (λ (j : ℕ). setPlaces j (drop j w)) (sym (add-one i)));
+            l .total
+            ∙ ap (λ (p : List ℕ). l .found ++ p)
+            (next ∙ ap (λ (b : Bool). setPlaces i (b ∷ drop (suc i) w)) e ∙ ap (λ (j : ℕ). setPlaces j (drop j w)) (sym (add-one i)));
       }
 
 pub listing-end : (w : Word) (array : List ℕ) (count i : ℕ) → Listing w array count i → length w ≤ i → Listed (setPlaces 0 w) count array
 listing-end w array count i l h =
-    record { number = sym (ap length all ∙ l .number); listed = λ k. l .kept k ∙ sym all }
+    record { number = sym (ap length all ∙ l .number); room = l .room; listed = λ k. l .kept k ∙ sym all }
   where
     all : setPlaces 0 w ≡ l .found
     all =

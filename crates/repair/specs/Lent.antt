@@ -1,23 +1,23 @@
--- Lent buffers as the store under repair, and groups inside them.
+-- What the functions of repair ask of lent buffers, and what they make of the store in them.
 use mathlib.Core.Path.{_≡_}
-use mathlib.Core.List.{List, map}
+use mathlib.Core.List.{List}
 use Prim.Native.Nat.{ℕ, _+_, _*_, _≤_, _<_}
 use lib.Dec.{eqb}
 use lib.ListN.{length, getD, take}
-use Rattle.linecode.specs.Code.{upFrom}
-use Rattle.linecode.specs.Places.{places}
-use Rattle.scheme.specs.Visit.{Group, State, select}
-use Rattle.rectangle.specs.Store.{placesAt, linesIn, bufferOf, stride}
+use Rattle.linecode.specs.Places.{linePlaces, places}
+use Rattle.scheme.specs.Visit.{Group, State, lineAt, select}
+use Rattle.scheme.specs.Repair.{linesOf, marksOf}
+use Rattle.rectangle.specs.Store.{bufferOf, stride}
 
--- a line buffer and a mark buffer as the store under repair: k lines with their marks
-unfoldable pub cells : ℕ → List ℕ → List ℕ → State
-cells k out marks = map (λ n. record { line = placesAt out n; mark = getD marks n 0 }) (upFrom 0 k)
+-- a line buffer and a mark buffer hold the store s: its lines, spare bits 0, and their marks
+pub record Holding (out marks : List ℕ) (s : State) : Type 0 where
+  pub wide : (n : ℕ) → n < length s → length (lineAt s n) ≡ linePlaces
+  pub lines : out ≡ bufferOf (linesOf s)
+  pub marked : marks ≡ marksOf s
 
--- they have room for k lines, and the lines' spare bits are 0
-pub record Lent (k : ℕ) (out marks : List ℕ) : Type 0 where
-  pub lines : length out ≡ k * 70
-  pub marked : length marks ≡ k
-  pub clean : out ≡ bufferOf (linesIn k out)
+-- whatever store the buffers hold before, they hold f of it after
+abbrev pub Makes : List ℕ → List ℕ → List ℕ → List ℕ → (State → State) → Type 0
+Makes out marks out′ marks′ f = (s : State) → Holding out marks s → Holding out′ marks′ (f s)
 
 -- a group of so many lines, from the first on at equal steps, inside k lines; its numbers are small
 pub record Inside (first step count k : ℕ) : Type 0 where
@@ -25,6 +25,11 @@ pub record Inside (first step count k : ℕ) : Type 0 where
   pub each : (i : ℕ) → i < count → first + i * step < k
   pub apart : 0 < step
   pub small : first + count * step ≤ 1000000
+
+-- a group inside two buffers that hold as many lines as marks
+pub record Lent (out marks : List ℕ) (first step count : ℕ) : Type 0 where
+  pub room : length out ≡ length marks * 70
+  pub inside : Inside first step count (length marks)
 
 -- those of some lines that are marked faulty
 unfoldable pub faultyAmong : List ℕ → List ℕ → List ℕ
@@ -37,9 +42,5 @@ groupAt first step count parity = record { members = stride first step count; pa
 -- a list of places in an array with room for six, and their number
 pub record Listed (all : List ℕ) (count : ℕ) (array : List ℕ) : Type 0 where
   pub number : count ≡ length all
+  pub room : length array ≡ 6
   pub listed : count ≤ 6 → take count array ≡ all
-
--- the buffers hold the store s
-pub record Holding (k : ℕ) (out marks : List ℕ) (s : State) : Type 0 where
-  pub lent : Lent k out marks
-  pub store : cells k out marks ≡ s

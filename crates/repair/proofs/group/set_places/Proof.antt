@@ -44,20 +44,21 @@ loop-again c =
     let here = c .before .before .before .loop in
     let w = places (c .before .before .before .before .args .line) in
     let in-line : here .i < length w = omega arith in
-    let bit = sym (c .before .is-set .ensures) in
-    (omega arith,
-    here .inv .1,
-    ⊎-elim
-    (λ t.
-    relist w _ _ _ _ (t .3)
-    (⊎-elim
-    (λ v. relist-array w _ _ _ _ (t .2 ∙ v .1) (listing-kept w (here .at) (here .count) (here .i) (here .inv .2) in-line (bit ∙ t .0 .taken) (v .0 .taken)))
-    (λ v. relist-array w _ _ _ _ (t .2 ∙ v .1) (listing-full w (here .at) (here .count) (here .i) (here .inv .2) in-line (bit ∙ t .0 .taken) (v .0 .left)))
-    (t .1 .came)))
-    (λ t.
-    relist w _ _ _ _ (t .2)
-    (relist-array w _ _ _ _ (t .1) (listing-clear w (here .at) (here .count) (here .i) (here .inv .2) in-line (bit ∙ t .0 .left))))
-    (c .if1 .came))
+    let bit = sym (c .before .is-set .ensures) in (
+      omega arith,
+      here .inv .1,
+      ⊎-elim
+          (λ t.
+          relist w _ _ _ _ (t .3)
+          (⊎-elim
+          (λ v. relist-array w _ _ _ _ (t .2 ∙ v .1) (listing-kept w (here .at) (here .count) (here .i) (here .inv .2) in-line (bit ∙ t .0 .taken) (v .0 .taken)))
+          (λ v. relist-array w _ _ _ _ (t .2 ∙ v .1) (listing-full w (here .at) (here .count) (here .i) (here .inv .2) in-line (bit ∙ t .0 .taken) (v .0 .left)))
+          (t .1 .came)))
+          (λ t.
+          relist w _ _ _ _ (t .2)
+          (relist-array w _ _ _ _ (t .1) (listing-clear w (here .at) (here .count) (here .i) (here .inv .2) in-line (bit ∙ t .0 .left))))
+          (c .if1 .came),
+    )
 
 returns : tie.Need-returns Inv-loop μ-loop
 returns c = listing-end (places (c .before .before .args .line)) _ _ _ (c .before .loop .inv .2) (omega arith)
