@@ -21,6 +21,7 @@ use Rattle.rectangle.specs.Repair.{repaired, StoreRepaired, handedOver, 
 use Rattle.rectangle.specs.Demands.{Rectangle, count, repairOf, Written, EqualTables, Alike, DamagedSo, ExactReturn, NotAlike}
 use Rattle.rectangle.proofs.Buffer.{linesIn-equal}
 use Rattle.rectangle.proofs.Groups.{rising-groups, equal-groups}
+use Rattle.rectangle.proofs.Runs.{repair-runs}
 use Rattle.rectangle.proofs.Parity.{parities-pass}
 use Rattle.rectangle.proofs.Written.{wordsOf, some-rows, some-columns, written-bytes, written-accepted, written-row, written-column, store-written}
 use Rattle.rectangle.proofs.Order.{received, mendable}
@@ -33,14 +34,6 @@ same-sides w r e f = ap₂ sided e f
     sided : ℕ → ℕ → Rectangle
     sided rows columns =
         record { rows = rows; columns = columns; lines = r .lines; rowTable = r .rowTable; columnTable = r .columnTable }
-
--- repair that is not refused hands over what its steps leave
-pub repair-runs : (rows columns : ℕ) (lines rowTable columnTable out marks : List ℕ)
-    → repairRefusal rows columns lines rowTable columnTable out marks ≡ 0
-    → repairStore rows columns lines rowTable columnTable out marks
-    ≡ handedOver (groups rows columns rowTable columnTable) (repaired rows columns lines rowTable columnTable)
-unfolding repairStore
-repair-runs rows columns lines rowTable columnTable out marks e = rw e
 
 -- a rectangle written is given by its rows, its columns and its lines
 rectangleOf : ℕ → ℕ → List ℕ → Rectangle
@@ -105,7 +98,7 @@ module _ (promises : Promises lineLayer) where
           × (repairStore (w .rows) (w .columns) lines rowTable columnTable out marks .lines ≡ w .lines)
       unfolding handedOver repaired
       returns =
-          rw (repair-runs (w .rows) (w .columns) lines rowTable columnTable out marks not-refused)
+          rw (repair-runs (w .rows) (w .columns) lines rowTable columnTable out marks 0 not-refused refl)
           (steps-return .answers, ap bufferOf (steps-return .exactly) ∙ sym (written .lines))
 
   pub exactReturn : ExactReturn

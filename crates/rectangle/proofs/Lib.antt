@@ -5,8 +5,10 @@ pub mod Spare
 pub mod Buffer
 pub mod Groups
 pub mod Tests
+pub mod Runs
 pub mod Parity
 pub mod Written
 pub mod Order
 pub mod Demand3
 pub mod FourLines
+pub mod Agreement
