@@ -93,6 +93,14 @@ module _ (rows columns : ℕ) (some : 0 < columns) where
   same-line n m e f =
       sym (div-add-mod' n columns) ∙ ap₂ (λ (a b : ℕ). a * columns + b) e f ∙ div-add-mod' m columns
 
+  pub rising-row : (r : ℕ) → Rising (row columns r)
+  unfolding row
+  rising-row r = rising-stride (r * columns) 1 columns (omega arith)
+
+  pub rising-column : (c : ℕ) → Rising (column rows columns c)
+  unfolding column
+  rising-column c = rising-stride c columns rows some
+
   -- row r and column c lie inside
   pub line-inside : (r c : ℕ) → r < rows → c < columns → r * columns + c < rows * columns
   line-inside r c h k =
@@ -143,10 +151,7 @@ module _ (rows columns : ℕ) (some : 0 < columns) where
         go (inr c) = subst P (sym (c .2)) (k (c .0) (c .1))
 
     pub rising-groups : RisingGroups (groups rows columns rowTable columnTable)
-    unfolding row column
-    rising-groups =
-        by-groups (λ g. Rising (g .members)) (λ r h. rising-stride (r * columns) 1 columns (omega arith))
-        (λ c h. rising-stride c columns rows some)
+    rising-groups = by-groups (λ g. Rising (g .members)) (λ r h. rising-row r) (λ c h. rising-column c)
 
     pub groups-inside : (g : Group) → g ∈ groups rows columns rowTable columnTable → (m : ℕ) → m ∈ g .members → m < rows * columns
     groups-inside =

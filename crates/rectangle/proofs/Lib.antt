@@ -12,3 +12,4 @@ pub mod Order
 pub mod Demand3
 pub mod FourLines
 pub mod Agreement
+pub mod Change
