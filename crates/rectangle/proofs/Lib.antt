@@ -6,6 +6,7 @@ pub mod Buffer
 pub mod Groups
 pub mod Tests
 pub mod Runs
+pub mod Refused
 pub mod Parity
 pub mod Written
 pub mod Order
