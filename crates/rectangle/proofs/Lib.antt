@@ -14,3 +14,4 @@ pub mod Demand3
 pub mod FourLines
 pub mod Agreement
 pub mod Change
+pub mod Loops
