@@ -19,11 +19,11 @@ use Rattle.rectangle.proofs.Runs.{zero-or-not, tables-run, tables-refus
 use Rattle.rectangle.proofs.Parity.{rowParity-correct, columnParity-correct, rowTable-at, columnTable-at, row-passes, column-passes, parities-pass}
 use Rattle.rectangle.proofs.Written.{written-bytes, written-accepted, written-row, written-column}
 
-rowTable-bytes : (rows columns : ℕ) (lines : List ℕ) → length (rowTableOf rows columns lines) ≡ rows * lineBytes
+pub rowTable-bytes : (rows columns : ℕ) (lines : List ℕ) → length (rowTableOf rows columns lines) ≡ rows * lineBytes
 unfolding rowTableOf
 rowTable-bytes rows columns lines = length-table-bytes (rowParity columns lines) rows
 
-columnTable-bytes : (rows columns : ℕ) (lines : List ℕ) → length (columnTableOf rows columns lines) ≡ columns * lineBytes
+pub columnTable-bytes : (rows columns : ℕ) (lines : List ℕ) → length (columnTableOf rows columns lines) ≡ columns * lineBytes
 unfolding columnTableOf
 columnTable-bytes rows columns lines = length-table-bytes (columnParity rows columns lines) columns
 

@@ -16,14 +16,13 @@ use Rattle.scheme.specs.Demand3 as Scheme
 use Rattle.scheme.proofs.ExactReturn.{exact-return}
 use Rattle.rectangle.specs.Store.{lineLayer, placesAt, linesIn, bufferOf, groups}
 use Rattle.rectangle.specs.Refusals.{holds, repairRefusal}
-use Rattle.rectangle.specs.Tables.{rowTableOf, columnTableOf}
 use Rattle.rectangle.specs.Repair.{repaired, StoreRepaired, handedOver, repairStore}
 use Rattle.rectangle.specs.Demands.{Rectangle, count, repairOf, Written, EqualTables, Alike, DamagedSo, ExactReturn, NotAlike}
 use Rattle.rectangle.proofs.Buffer.{linesIn-equal}
 use Rattle.rectangle.proofs.Groups.{rising-groups, equal-groups}
 use Rattle.rectangle.proofs.Runs.{repair-runs}
 use Rattle.rectangle.proofs.Parity.{parities-pass}
-use Rattle.rectangle.proofs.Written.{wordsOf, some-rows, some-columns, written-bytes, written-accepted, written-row, written-column, store-written}
+use Rattle.rectangle.proofs.Written.{wordsOf, rectangleOf, some-rows, some-columns, written-bytes, written-accepted, written-row, written-column, store-written}
 use Rattle.rectangle.proofs.Order.{received, mendable}
 
 -- a rectangle of the same rows and columns
@@ -34,17 +33,6 @@ same-sides w r e f = ap₂ sided e f
     sided : ℕ → ℕ → Rectangle
     sided rows columns =
         record { rows = rows; columns = columns; lines = r .lines; rowTable = r .rowTable; columnTable = r .columnTable }
-
--- a rectangle written is given by its rows, its columns and its lines
-rectangleOf : ℕ → ℕ → List ℕ → Rectangle
-rectangleOf rows columns lines =
-    record {
-      rows = rows;
-      columns = columns;
-      lines = lines;
-      rowTable = rowTableOf rows columns lines;
-      columnTable = columnTableOf rows columns lines;
-    }
 
 written-is : (w : Rectangle) → Written w → w ≡ rectangleOf (w .rows) (w .columns) (bufferOf (wordsOf w))
 unfolding rectangleOf

@@ -15,3 +15,4 @@ pub mod FourLines
 pub mod Agreement
 pub mod Change
 pub mod Loops
+pub mod Example
