@@ -1,20 +1,20 @@
--- A rectangle that agrees with its tables: refusal 9 accepts them, and tables made anew have their places. A rectangle written agrees.
+-- A rectangle that agrees with its tables: refusal 9 accepts them, and tables made anew have their places. So with one written.
 use mathlib.Core.Path.{_≡_, refl, sym, ap, ap₂, _∙_}
 use mathlib.Core.Logic.{_⊎_, inl, inr}
-use mathlib.Core.Bool.{Bool, true}
+use mathlib.Core.Bool.{true}
 use mathlib.Core.List.{List}
 use Prim.Native.Nat.{ℕ, _*_, _<_}
 use native.Mathlib.Omega.{arith}
 use lib.ListN.{length}
 use Rattle.linecode.specs.Places.{lineBytes}
 use Rattle.scheme.specs.Layer.{Promises}
-use Rattle.rectangle.specs.Store.{lineLayer, placesAt, linesIn, rowGroup, columnGroup, groups}
+use Rattle.rectangle.specs.Store.{lineLayer, linesIn, rowGroup, columnGroup, groups}
 use Rattle.rectangle.specs.Refusals.{every, tablesFit, parityCorrect, tablesRefusal}
-use Rattle.rectangle.specs.Tables.{rowParity, columnParity, rowTableOf, columnTableOf, TablesMade, makeTables}
+use Rattle.rectangle.specs.Tables.{rowParity, columnParity, rowTableOf, columnTableOf, TablesMade}
 use Rattle.rectangle.specs.Demands.{Rectangle, count, tablesFor, Written, Agrees, TablesOfTheCode, TablesAreOfTheCode}
 use Rattle.rectangle.proofs.Buffer.{holds-length, length-holds, equal-linesIn, length-table-bytes}
 use Rattle.rectangle.proofs.Groups.{Sides, sides}
-use Rattle.rectangle.proofs.Tests.{lengths-tables, TablesAsked, tables-pass, tables-passed}
+use Rattle.rectangle.proofs.Tests.{lengths-tables, tables-pass, tables-passed}
 use Rattle.rectangle.proofs.Runs.{zero-or-not, tables-run, tables-refused}
 use Rattle.rectangle.proofs.Parity.{rowParity-correct, columnParity-correct, rowTable-at, columnTable-at, row-passes, column-passes, parities-pass}
 use Rattle.rectangle.proofs.Written.{written-bytes, written-accepted, written-row, written-column}

@@ -1,52 +1,33 @@
 -- A change on a rectangle that agrees with its tables equals tables made anew, place by place, and the rectangle agrees again.
 use mathlib.Core.Path.{_≡_, refl, sym, ap, ap₂, subst, _∙_}
-use mathlib.Core.Logic.{_⊎_, inl, inr}
-use mathlib.Core.Bool.{Bool, true, false, not}
-use mathlib.Core.List.{List, [], _∷_, _++_, append-assoc}
-use Prim.Native.Nat.{ℕ, _+_, _*_, _/_, _%_, _≤_, _<_}
+use mathlib.Core.Bool.{true, not}
+use mathlib.Core.List.{List}
+use Prim.Native.Nat.{ℕ, _*_, _/_, _%_, _<_}
 use native.Mathlib.Omega.{arith}
 use native.Mathlib.Decide.{ℕ-discrete}
 use borrow.Author.Tests.{eq-eqb, lt-ltb, eqb-false, not-true}
 use lib.Dec.{eqb}
-use lib.ListN.{length, take}
-use lib.Seq.{take-at}
+use lib.ListN.{length}
 use Rattle.gf2.specs.Word.{Word, _⊕_, zeros}
-use Rattle.gf2.specs.Check.{crc}
-use Rattle.gf2.specs.Generator.{generator}
 use Rattle.gf2.proofs.Xor.{xor-comm, xor-swap, xor-self, xor-zeros, length-xor, length-xor-same}
-use Rattle.linecode.specs.Places.{dataPlaces, dataBytes, linePlaces, lineBytes, bitsOf}
-use Rattle.linecode.specs.Code.{dataOf, hamming, withCrc, withHamming, codeword, Correct}
-use Rattle.linecode.proofs.Bytes.{length-bitsOf}
-use Rattle.linecode.proofs.Line.{data-is}
+use Rattle.linecode.specs.Places.{dataBytes, linePlaces, lineBytes}
 use Rattle.scheme.specs.Layer.{CorrectLine, readLine, Promises}
 use Rattle.scheme.specs.Visit.{isFaulty, without, sum}
 use Rattle.scheme.specs.Demand3.{_∈_, Rising}
 use Rattle.scheme.proofs.Lists.{selected}
 use Rattle.scheme.proofs.Sums.{sum-ext, sum-split}
-use Rattle.rectangle.specs.Store.{lineLayer, writeUnder, placesAt, linesIn, putLine, aloneAt, row, column}
-use Rattle.rectangle.specs.Refusals.{holds, tablesFit, acceptedAt, changeRefusal}
+use Rattle.rectangle.specs.Store.{lineLayer, placesAt, putLine, aloneAt, row, column}
+use Rattle.rectangle.specs.Refusals.{holds, acceptedAt, changeRefusal}
 use Rattle.rectangle.specs.Tables.{rowParity, columnParity}
-use Rattle.rectangle.specs.Change.{newLine, difference, addTo, LineChanged, changeLine}
-use Rattle.rectangle.specs.Demands.{Rectangle, count, tablesFor, changeIn, Agrees, changed, ChangedAsAnew, ChangeEqualsTablesAnew}
+use Rattle.rectangle.specs.Change.{newLine, difference, addTo, LineChanged}
+use Rattle.rectangle.specs.Demands.{Rectangle, count, changeIn, Agrees, changed, ChangeEqualsTablesAnew}
 use Rattle.rectangle.proofs.Buffer.{length-holds, length-placesAt, length-putLine, placesAt-put, placesAt-other}
 use Rattle.rectangle.proofs.Groups.{in-row, row-number, row-inside, row-below, in-column, column-number, column-inside, column-below, rising-row, rising-column}
 use Rattle.rectangle.proofs.Tests.{tables-lengths, lengths-tables}
 use Rattle.rectangle.proofs.Runs.{change-runs}
-use Rattle.rectangle.proofs.Parity.{correct-reads, correct-accepted, alone-sized}
-use Rattle.rectangle.proofs.Agreement.{some-rows, some-columns, line-bytes, row-accepted, column-accepted, anew-answers, anew-rows, anew-columns}
-
--- writing 64 data bytes gives a correct line
-pub write-correct : (n : ℕ) (payload : List ℕ) → length payload ≡ dataBytes → CorrectLine lineLayer n (newLine n payload)
-unfolding newLine writeUnder Correct codeword withHamming withCrc dataOf dataBytes
-write-correct n payload e =
-    sym (ap codeword (ap (take dataPlaces) (append-assoc d (crc generator d) (hamming (d ++ crc generator d)))
-    ∙ take-at d (crc generator d ++ hamming (d ++ crc generator d)) dataPlaces whole))
-  where
-    d : Word
-    d = bitsOf payload
-
-    whole : length d ≡ dataPlaces
-    whole = length-bitsOf payload ∙ omega (arith, e, data-is)
+use Rattle.rectangle.proofs.Parity.{correct-reads, correct-accepted, accepted-correct}
+use Rattle.rectangle.proofs.Writing.{write-correct}
+use Rattle.rectangle.proofs.Agreement.{some-columns, line-bytes, row-accepted, column-accepted, anew-answers, anew-rows, anew-columns}
 
 -- ---- the exclusive or of a group in which line n alone changes
 module _ (old new : ℕ → Word) (n : ℕ) (ns : List ℕ) (others : (m : ℕ) → m ∈ ns → (m ≡ n → ⊥) → new m ≡ old m) where
@@ -73,7 +54,8 @@ module _ (old new : ℕ → Word) (n : ℕ) (ns : List ℕ) (others : (m : ℕ) 
           others m (s .0) (eqb-false m n (not-true _ (s .1)))
 
 module _ (promises : Promises lineLayer) where
-  module _ (r : Rectangle) (agrees : Agrees r) (n : ℕ) (payload : List ℕ) (inside : n < count r) (whole : length payload ≡ dataBytes) where
+  module _ (r : Rectangle) (agrees : Agrees r) (n : ℕ) (payload : List ℕ) (inside : n < count r)
+      (whole : length payload ≡ dataBytes) where
     -- the lines as the change leaves them, and each line as it reads alone before and after
     changedLines : List ℕ
     changedLines = putLine (r .lines) n (newLine n payload)
@@ -127,7 +109,7 @@ module _ (promises : Promises lineLayer) where
     unfolding old
     old-sized =
         promises .sized (lineLayer .address n) (aloneAt (r .lines) n .line)
-        (alone-sized promises (count r) (r .lines) bytes n inside (agrees .accepted n inside))
+        (accepted-correct promises (count r) (r .lines) bytes n inside (agrees .accepted n inside))
 
     -- ---- a table of k groups, of which group j alone holds line n
     module _ (table : List ℕ) (k : ℕ) (tableBytes : length table ≡ k * lineBytes) (members : ℕ → List ℕ)
@@ -156,7 +138,8 @@ module _ (promises : Promises lineLayer) where
           at-j =
               placesAt-put k table tableBytes j below added added-sized
               ∙ ap₂ (λ (a b : Word). a ⊕ (old n ⊕ b)) (parities j below) (sym new-n)
-              ∙ sym (sum-changed old new n (members j) (others j below) (rising j) holdsLine (ap length new-n ∙ sized ∙ sym old-sized))
+              ∙ sym (sum-changed old new n (members j) (others j below) (rising j) holdsLine
+              (ap length new-n ∙ sized ∙ sym old-sized))
 
           go : Dec (i ≡ j) → placesAt (putLine table j added) i ≡ sum new (members i)
           go (yes e) = subst (λ (l : ℕ). placesAt (putLine table j added) l ≡ sum new (members l)) (sym e) at-j
@@ -190,7 +173,8 @@ module _ (promises : Promises lineLayer) where
         ≡ columnParity (r .rows) (r .columns) changedLines i
     unfolding columnParity old new
     column-parity =
-        still-parity (r .columnTable) (r .columns) (bothLengths .1) (column (r .rows) (r .columns)) (rising-column (r .rows) (r .columns) some)
+        still-parity (r .columnTable) (r .columns) (bothLengths .1) (column (r .rows) (r .columns))
+        (rising-column (r .rows) (r .columns) some)
         (λ i m h a. column-inside (r .rows) (r .columns) some i m h a) (agrees .columnTable) (n % r .columns) home-column
         (in-column (r .rows) (r .columns) some n inside) (λ i h a. sym (column-number (r .rows) (r .columns) some i n h a))
 

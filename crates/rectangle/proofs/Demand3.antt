@@ -1,23 +1,21 @@
 -- Demand 3 for rectangles in bytes: the exact return, that none look alike, and the four lines.
 use mathlib.Core.Path.{_≡_, refl, sym, ap, ap₂, subst, _∙_}
-use mathlib.Core.Logic.{_⊎_, inl, inr}
-use mathlib.Core.Bool.{Bool, true, false, _&&_}
-use mathlib.Core.List.{List, [], _∷_}
-use Prim.Native.Nat.{ℕ, _*_, _/_, _%_, _≤_, _<_}
-use native.Mathlib.Omega.{arith}
+use mathlib.Core.Bool.{true}
+use mathlib.Core.List.{List}
+use Prim.Native.Nat.{ℕ, _<_}
 use borrow.Author.Tests.{eq-eqb}
 use lib.ListN.{length}
-use Rattle.gf2.specs.Word.{Word, distance}
+use Rattle.gf2.specs.Word.{Word}
 use Rattle.scheme.specs.Layer.{readLine, Promises}
 use Rattle.scheme.specs.Visit.{Group}
 use Rattle.scheme.specs.Repair.{repair, linesOf, answer}
-use Rattle.scheme.specs.Demand3.{_∈_, wordAt, Returned}
+use Rattle.scheme.specs.Demand3.{Returned}
 use Rattle.scheme.specs.Demand3 as Scheme
 use Rattle.scheme.proofs.ExactReturn.{exact-return}
 use Rattle.rectangle.specs.Store.{lineLayer, placesAt, linesIn, bufferOf, groups}
 use Rattle.rectangle.specs.Refusals.{holds, repairRefusal}
-use Rattle.rectangle.specs.Repair.{repaired, StoreRepaired, handedOver, repairStore}
-use Rattle.rectangle.specs.Demands.{Rectangle, count, repairOf, Written, EqualTables, Alike, DamagedSo, ExactReturn, NotAlike}
+use Rattle.rectangle.specs.Repair.{repaired, handedOver, repairStore}
+use Rattle.rectangle.specs.Demands.{Rectangle, count, repairOf, Written, Alike, DamagedSo, ExactReturn, NotAlike}
 use Rattle.rectangle.proofs.Buffer.{linesIn-equal}
 use Rattle.rectangle.proofs.Groups.{rising-groups, equal-groups}
 use Rattle.rectangle.proofs.Runs.{repair-runs}
@@ -120,8 +118,8 @@ module _ (promises : Promises lineLayer) where
 
   pub notAlike : NotAlike
   notAlike one two r s w v d d′ alike =
-      same-written one w (two .lines) (two .rowTable) (two .columnTable) (subst Written p v) (r .lines) (r .rowTable) (r .columnTable)
-      (s .lines) (s .rowTable) (s .columnTable) (subst (DamagedSo one) q d)
+      same-written one w (two .lines) (two .rowTable) (two .columnTable) (subst Written p v)
+      (r .lines) (r .rowTable) (r .columnTable) (s .lines) (s .rowTable) (s .columnTable) (subst (DamagedSo one) q d)
       (subst (DamagedSo (received one (two .lines) (two .rowTable) (two .columnTable))) t
       (subst (λ (x : Rectangle). DamagedSo x s) p d′))
       (subst (Alike (received one (r .lines) (r .rowTable) (r .columnTable))) t (subst (λ (x : Rectangle). Alike x s) q alike))
@@ -131,7 +129,9 @@ module _ (promises : Promises lineLayer) where
       t = same-sides one s (sym (alike .rows) ∙ d .rows) (sym (alike .columns) ∙ d .columns)
 
       p : two ≡ received one (two .lines) (two .rowTable) (two .columnTable)
-      p = same-sides one two (sym (d′ .rows) ∙ sym (alike .rows) ∙ d .rows) (sym (d′ .columns) ∙ sym (alike .columns) ∙ d .columns)
+      p =
+          same-sides one two (sym (d′ .rows) ∙ sym (alike .rows) ∙ d .rows)
+          (sym (d′ .columns) ∙ sym (alike .columns) ∙ d .columns)
 
       q : r ≡ received one (r .lines) (r .rowTable) (r .columnTable)
       q = same-sides one r (d .rows) (d .columns)

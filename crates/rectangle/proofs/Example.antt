@@ -1,30 +1,30 @@
--- The words of demand 3 can be met: any 2 by 2 rectangle written, with line 0 damaged at places 0 and 1 and line 1 at places 2 and 3,
--- has line 0 mended by trial.
-use mathlib.Core.Path.{_≡_, refl, sym, ap, ap₂, subst, _∙_}
-use mathlib.Core.Logic.{_⊎_, inl, inr}
+-- The words of demand 3 can be met: in any 2 by 2 rectangle written let line 0 be damaged at places 0 and 1, and line 1 at places 2
+-- and 3; line 0 is then mended by trial.
+use mathlib.Core.Path.{_≡_, refl, ap, ap₂, _∙_}
+use mathlib.Core.Logic.{inl, inr}
 use mathlib.Core.Bool.{Bool, true, false}
 use mathlib.Core.List.{List, [], _∷_}
-use Prim.Native.Nat.{ℕ, zero, suc, _+_, _*_, _/_, _%_, _≤_, _<_}
+use Prim.Native.Nat.{ℕ, zero, suc, _/_, _≤_, _<_}
 use native.Mathlib.Omega.{arith}
 use lib.Dec.{lit<}
 use lib.ListN.{length, getD, replicate}
-use Rattle.gf2.specs.Word.{Word, _⊻_, _⊕_, weight, distance, flip}
-use Rattle.gf2.proofs.Xor.{bit-self, xor-self}
+use Rattle.gf2.specs.Word.{Word, _⊕_, weight, distance, flip}
+use Rattle.gf2.proofs.Xor.{bit-self}
 use Rattle.gf2.proofs.Weight.{distance-self, length-flip}
-use Rattle.linecode.specs.Places.{linePlaces, lineBytes, dataBytes}
+use Rattle.linecode.specs.Places.{lineBytes, dataBytes}
 use Rattle.linecode.proofs.Line.{places-is}
 use Rattle.scheme.specs.Layer.{CorrectLine, Promises}
 use Rattle.scheme.specs.Demand3.{_∈_, wordAt}
-use Rattle.rectangle.specs.Store.{lineLayer, placesAt, linesIn, bufferOf}
+use Rattle.rectangle.specs.Store.{lineLayer, bufferOf}
 use Rattle.rectangle.specs.Refusals.{sideFits, sidesFit, holds}
 use Rattle.rectangle.specs.Change.{newLine}
-use Rattle.rectangle.specs.Demands.{Rectangle, count, repairOf, Written, Distinct, damage, damagedAt, Alone, Paired, Turns, DamagedSo}
+use Rattle.rectangle.specs.Demands.{Rectangle, repairOf, Written, damage, damagedAt, Paired, DamagedSo}
 use Rattle.rectangle.proofs.Buffer.{Sized, placesAt-bufferOf, length-bufferOf, length-holds}
 use Rattle.rectangle.proofs.Tests.{lengths-tables}
 use Rattle.rectangle.proofs.Written.{rectangleOf, correct-written}
 use Rattle.rectangle.proofs.Agreement.{rowTable-bytes, columnTable-bytes}
 use Rattle.rectangle.proofs.Order.{received}
-use Rattle.rectangle.proofs.Change.{write-correct}
+use Rattle.rectangle.proofs.Writing.{write-correct}
 use Rattle.rectangle.proofs.Demand3.{exactReturn}
 
 -- ---- two places turned over are two damaged bits
@@ -51,12 +51,9 @@ unhurt-first : (x : Word) → getD (x ⊕ flip 3 (flip 2 x)) 0 false ≡ false
 unhurt-first [] = refl
 unhurt-first (a ∷ x) = bit-self a
 
--- 64 zero bytes
-abbrev pub zeroData : List ℕ
-zeroData = replicate 64 0
-
 -- ---- a rectangle written, as it is received
-module _ (promises : Promises lineLayer) (a b c d : Word) (correct : (n : ℕ) → n < 4 → CorrectLine lineLayer n (wordAt (a ∷ b ∷ c ∷ d ∷ []) n)) where
+module _ (promises : Promises lineLayer) (a b c d : Word)
+    (correct : (n : ℕ) → n < 4 → CorrectLine lineLayer n (wordAt (a ∷ b ∷ c ∷ d ∷ []) n)) where
   ws : List Word
   ws = a ∷ b ∷ c ∷ d ∷ []
 
@@ -182,8 +179,14 @@ module _ (promises : Promises lineLayer) (a b c d : Word) (correct : (n : ℕ) �
   unfolding stored found rectangleOf
   example-returned = exactReturn promises stored found whole damaged-so
 
--- correct lines there are: any 64 bytes make one
-pub zero-lines : (n : ℕ) → n < 4 → CorrectLine lineLayer n (wordAt (newLine 0 zeroData ∷ newLine 1 zeroData ∷ newLine 2 zeroData ∷ newLine 3 zeroData ∷ []) n)
+-- ---- there are such lines: any 64 bytes make one
+abbrev pub zeroData : List ℕ
+zeroData = replicate 64 0
+
+abbrev pub zeroLines : List Word
+zeroLines = newLine 0 zeroData ∷ newLine 1 zeroData ∷ newLine 2 zeroData ∷ newLine 3 zeroData ∷ []
+
+pub zero-lines : (n : ℕ) → n < 4 → CorrectLine lineLayer n (wordAt zeroLines n)
 unfolding dataBytes
 zero-lines zero h = write-correct 0 zeroData refl
 zero-lines (suc zero) h = write-correct 1 zeroData refl

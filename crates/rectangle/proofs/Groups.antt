@@ -1,7 +1,7 @@
 -- Rows and columns: each line of the rectangle is in exactly its row and its column, and all groups rise.
-use mathlib.Core.Path.{_≡_, refl, sym, ap, ap₂, subst, _∙_}
+use mathlib.Core.Path.{_≡_, sym, ap, ap₂, subst, _∙_}
 use mathlib.Core.Logic.{_⊎_, inl, inr}
-use mathlib.Core.Bool.{Bool, true, false, and-eq-true-iff}
+use mathlib.Core.Bool.{true, and-eq-true-iff}
 use mathlib.Core.List.{List, map, _++_}
 use Prim.Native.Nat.{ℕ, suc, _+_, _*_, _/_, _%_, _≤_, _<_}
 use native.Mathlib.Nat.{zero-add, suc-mul, div-add-mod', mod-lt, mod-eq-of-lt, div-eq-of-lt, div-lt-iff-lt-mul, mul-add-div-right, add-mul-mod-self-right, mul-le-mul-right}
@@ -109,27 +109,32 @@ module _ (rows columns : ℕ) (some : 0 < columns) where
 
   -- ---- the list of groups
   module _ (rowTable columnTable : List ℕ) where
+    rowGroups : List Group
+    rowGroups = map (rowGroup columns rowTable) (upFrom 0 rows)
+
+    columnGroups : List Group
+    columnGroups = map (columnGroup rows columns columnTable) (upFrom 0 columns)
+
     pub row-listed : (r : ℕ) → r < rows → rowGroup columns rowTable r ∈ groups rows columns rowTable columnTable
-    unfolding groups
+    unfolding groups rowGroups columnGroups
     row-listed r h =
-        in-left (map (rowGroup columns rowTable) (upFrom 0 rows)) (map (columnGroup rows columns columnTable) (upFrom 0 columns)) _
+        in-left rowGroups columnGroups _
         (in-map (rowGroup columns rowTable) (upFrom 0 rows) r (rw zero-add at (in-upFrom 0 rows r h)))
 
     pub column-listed : (c : ℕ) → c < columns → columnGroup rows columns columnTable c ∈ groups rows columns rowTable columnTable
-    unfolding groups
+    unfolding groups rowGroups columnGroups
     column-listed c h =
-        in-right (map (rowGroup columns rowTable) (upFrom 0 rows)) (map (columnGroup rows columns columnTable) (upFrom 0 columns)) _
+        in-right rowGroups columnGroups _
         (in-map (columnGroup rows columns columnTable) (upFrom 0 columns) c (rw zero-add at (in-upFrom 0 columns c h)))
 
     -- every group is a row or a column
     pub row-or-column : (g : Group) → g ∈ groups rows columns rowTable columnTable
         → ((r : ℕ) × (r < rows) × (g ≡ rowGroup columns rowTable r))
         ⊎ ((c : ℕ) × (c < columns) × (g ≡ columnGroup rows columns columnTable c))
-    unfolding groups
-    row-or-column g i =
-        go (append-from (map (rowGroup columns rowTable) (upFrom 0 rows)) (map (columnGroup rows columns columnTable) (upFrom 0 columns)) g i)
+    unfolding groups rowGroups columnGroups
+    row-or-column g i = go (append-from rowGroups columnGroups g i)
       where
-        go : (g ∈ map (rowGroup columns rowTable) (upFrom 0 rows)) ⊎ (g ∈ map (columnGroup rows columns columnTable) (upFrom 0 columns))
+        go : (g ∈ rowGroups) ⊎ (g ∈ columnGroups)
             → ((r : ℕ) × (r < rows) × (g ≡ rowGroup columns rowTable r))
             ⊎ ((c : ℕ) × (c < columns) × (g ≡ columnGroup rows columns columnTable c))
         go (inl j) =

@@ -7,6 +7,7 @@ pub mod Groups
 pub mod Tests
 pub mod Runs
 pub mod Refused
+pub mod Writing
 pub mod Parity
 pub mod Written
 pub mod Order

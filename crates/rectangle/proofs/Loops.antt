@@ -1,13 +1,12 @@
--- Laws for loops over buffers: a line loaded and stored, lines written one after the other, the store under repair as its two buffers.
+-- Laws for loops over buffers: a line loaded and stored, lines written in order, the store under repair as its two buffers.
 use mathlib.Core.Path.{_≡_, refl, sym, ap, ap₂, _∙_}
-use mathlib.Core.Logic.{inl, inr}
-use mathlib.Core.Bool.{Bool, true, false, _&&_, and-assoc}
+use mathlib.Core.Bool.{Bool, _&&_, and-assoc}
 use mathlib.Core.List.{List, [], _∷_, _++_, map, append-assoc, append-nil}
-use Prim.Native.Nat.{ℕ, zero, suc, _+_, _-_, _*_, _≤_, _<_}
-use native.Mathlib.Nat.{suc-mul, zero-add, le-of-suc-le-suc, not-suc-le-zero}
+use Prim.Native.Nat.{ℕ, zero, suc, _+_, _*_, _<_}
+use native.Mathlib.Nat.{suc-mul}
 use native.Mathlib.Omega.{arith}
-use lib.ListN.{length, take, drop, set, replicate, length-append, length-drop, length-map, List·getD-map}
-use lib.Seq.{take-all, take-at, drop-at, take-append-le, drop-append-add, drop-drop, paste}
+use lib.ListN.{length, take, drop, set, replicate, length-drop, length-map, List·getD-map}
+use lib.Seq.{take-all, take-at, take-append-le, drop-append-add, drop-drop, paste}
 use Rattle.gf2.specs.Word.{Word, _⊕_, isZero}
 use Rattle.linecode.specs.Places.{linePlaces, lineBytes, loaded, lineOf}
 use Rattle.linecode.proofs.Line.{bytes-is}

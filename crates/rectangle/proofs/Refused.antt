@@ -1,5 +1,5 @@
 -- Demands 1 and 2: refusals write nothing, 11 and 12 hand over what the steps leave, and lines are given up last.
-use mathlib.Core.Path.{_≡_, refl, sym, ap, _∙_}
+use mathlib.Core.Path.{_≡_, refl, ap}
 use mathlib.Core.Logic.{_⊎_, inl, inr}
 use mathlib.Core.Bool.{Bool, true, false, cond, _&&_}
 use mathlib.Core.List.{List}
@@ -10,13 +10,13 @@ use lib.Dec.{eqb, lit≤}
 use lib.ListN.{length}
 use Rattle.scheme.specs.Layer.{readLine}
 use Rattle.scheme.specs.Visit.{Group, State}
-use Rattle.scheme.specs.Repair.{pass, agrees, answer, faultyCount, linesOf, marksOf}
+use Rattle.scheme.specs.Repair.{pass, agrees, answer, faultyCount}
 use Rattle.scheme.proofs.Passes.{repair-end}
-use Rattle.rectangle.specs.Store.{lineLayer, linesIn, bufferOf, groups}
+use Rattle.rectangle.specs.Store.{lineLayer, linesIn, groups}
 use Rattle.rectangle.specs.Refusals.{unless, every, sidesFit, holds, tablesFit, parityCorrect, tablesRefusal, changeRefusal, repairRefusal}
 use Rattle.rectangle.specs.Tables.{TablesMade}
 use Rattle.rectangle.specs.Change.{LineChanged}
-use Rattle.rectangle.specs.Repair.{repaired, StoreRepaired, handedOver}
+use Rattle.rectangle.specs.Repair.{repaired, handedOver}
 use Rattle.rectangle.specs.Demands.{Rectangle, count, tablesFor, changeIn, repairOf, RefusalsWriteNothing, HandsOver, GivenUpLast}
 use Rattle.rectangle.proofs.Runs.{zero-or-not, tables-run, tables-refused, change-runs, change-refused, repair-runs, repair-refused}
 
@@ -86,7 +86,8 @@ module _ (r : Rectangle) (out marks : List ℕ) where
       go (inl z) = z
       go (inr d) =
           let high : 11 ≤ refusal = rw (refused d) at h in
-          let z : ⊥ = omega (arith, repair-small (r .rows) (r .columns) (r .lines) (r .rowTable) (r .columnTable) out marks) in absurd z
+          let low = repair-small (r .rows) (r .columns) (r .lines) (r .rowTable) (r .columnTable) out marks in
+          let z : ⊥ = omega arith in absurd z
 
   steps-answer : refusal ≡ 0 → (repairOf r out marks .answer ≡ 0) ⊎ (11 ≤ repairOf r out marks .answer)
   unfolding handedOver
@@ -120,7 +121,10 @@ refusalsWriteNothing = record { tables = tables; change = change; repair = write
             ⊎ (tablesRefusal (r .rows) (r .columns) (r .lines) oldRows oldColumns ≡ 0 → ⊥)
             → (tablesFor r oldRows oldColumns .rowTable ≡ oldRows) × (tablesFor r oldRows oldColumns .columnTable ≡ oldColumns)
         go (inl z) =
-            absurd (d (ap (λ (t : TablesMade). t .answer) (tables-run (r .rows) (r .columns) (r .lines) oldRows oldColumns _ refl z)))
+            absurd
+            (d
+            (ap (λ (t : TablesMade). t .answer)
+            (tables-run (r .rows) (r .columns) (r .lines) oldRows oldColumns _ refl z)))
         go (inr e) = rw (tables-refused (r .rows) (r .columns) (r .lines) oldRows oldColumns _ refl e) (refl, refl)
 
     change : (r : Rectangle) (n : ℕ) (payload : List ℕ) → (changeIn r n payload .answer ≡ 0 → ⊥)
@@ -139,7 +143,8 @@ refusalsWriteNothing = record { tables = tables; change = change; repair = write
             (ap (λ (c : LineChanged). c .answer)
             (change-runs (r .rows) (r .columns) (r .lines) (r .rowTable) (r .columnTable) n payload _ refl z)))
         go (inr e) =
-            rw (change-refused (r .rows) (r .columns) (r .lines) (r .rowTable) (r .columnTable) n payload _ refl e) (refl, refl, refl)
+            rw (change-refused (r .rows) (r .columns) (r .lines) (r .rowTable) (r .columnTable) n payload _ refl e)
+            (refl, refl, refl)
 
 pub handsOver : HandsOver
 unfolding handedOver

@@ -1,19 +1,16 @@
 -- The three entry points without their choice: what a call that is not refused gives, and what a refused one leaves.
-use mathlib.Core.Path.{_≡_, refl, sym, ap, _∙_}
+use mathlib.Core.Path.{_≡_, refl, _∙_}
 use mathlib.Core.Logic.{_⊎_, inl, inr}
-use mathlib.Core.Bool.{Bool, true, false}
 use mathlib.Core.List.{List}
-use Prim.Native.Nat.{ℕ, zero, suc, _/_, _%_, _≤_}
+use Prim.Native.Nat.{ℕ, zero, suc, _/_, _%_}
 use native.Mathlib.Omega.{arith}
 use borrow.Author.Tests.{ne-eqb}
-use lib.Dec.{eqb}
-use Rattle.scheme.specs.Visit.{Group, State}
-use Rattle.scheme.specs.Repair.{Repaired, agrees, answer, faultyCount}
+use Rattle.scheme.specs.Repair.{answer}
 use Rattle.rectangle.specs.Store.{putLine, groups}
 use Rattle.rectangle.specs.Refusals.{tablesRefusal, changeRefusal, repairRefusal}
-use Rattle.rectangle.specs.Tables.{rowTableOf, columnTableOf, TablesMade, makeTables}
-use Rattle.rectangle.specs.Change.{newLine, difference, addTo, LineChanged, changeLine}
-use Rattle.rectangle.specs.Repair.{repaired, StoreRepaired, handedOver, repairStore}
+use Rattle.rectangle.specs.Tables.{rowTableOf, columnTableOf, makeTables}
+use Rattle.rectangle.specs.Change.{newLine, difference, addTo, changeLine}
+use Rattle.rectangle.specs.Repair.{repaired, handedOver, repairStore}
 
 -- a refusal is 0 or not
 pub zero-or-not : (n : ℕ) → (n ≡ 0) ⊎ (n ≡ 0 → ⊥)
@@ -34,7 +31,8 @@ module _ (rows columns : ℕ) (lines rowTable columnTable : List ℕ) where
     unfolding makeTables
     tables-refused d = rw (is, ne-eqb refusal 0 d)
 
-  module _ (n : ℕ) (payload : List ℕ) (refusal : ℕ) (is : changeRefusal rows columns lines rowTable columnTable n payload ≡ refusal) where
+  module _ (n : ℕ) (payload : List ℕ) (refusal : ℕ)
+      (is : changeRefusal rows columns lines rowTable columnTable n payload ≡ refusal) where
     pub change-runs : refusal ≡ 0
         → changeLine rows columns lines rowTable columnTable n payload
         ≡ record {

@@ -1,6 +1,6 @@
 -- A rectangle written, as the scheme's theory sees it: correct lines, and parity lines that are the sums of their groups.
-use mathlib.Core.Path.{_≡_, refl, sym, ap, ap₂, subst, _∙_}
-use mathlib.Core.Bool.{Bool, true, false}
+use mathlib.Core.Path.{_≡_, refl, sym, ap, subst, _∙_}
+use mathlib.Core.Bool.{true}
 use mathlib.Core.List.{List}
 use Prim.Native.Nat.{ℕ, _*_, _<_}
 use native.Mathlib.Omega.{arith}
@@ -12,7 +12,7 @@ use Rattle.scheme.specs.Visit.{Group, sum}
 use Rattle.scheme.specs.Demand3.{_∈_, wordAt}
 use Rattle.scheme.specs.Demand3 as Scheme
 use Rattle.scheme.proofs.Sums.{sum-ext}
-use Rattle.rectangle.specs.Store.{lineLayer, placesAt, linesIn, bufferOf, aloneAt, row, column, rowGroup, columnGroup, groups}
+use Rattle.rectangle.specs.Store.{lineLayer, placesAt, linesIn, bufferOf, aloneAt, row, column, groups}
 use Rattle.rectangle.specs.Refusals.{sidesFit, acceptedAt}
 use Rattle.rectangle.specs.Tables.{rowParity, columnParity, rowTableOf, columnTableOf}
 use Rattle.rectangle.specs.Demands.{Rectangle, count, Written}
