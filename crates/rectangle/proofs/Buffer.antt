@@ -1,20 +1,19 @@
 -- Lines in a buffer: how many bytes, which line is read where, and what writing one line leaves.
-use mathlib.Core.Path.{_≡_, refl, sym, ap, ap₂, _∙_}
-use mathlib.Core.Logic.{_⊎_, inl, inr}
-use mathlib.Core.Bool.{Bool, true, false}
+use mathlib.Core.Path.{_≡_, sym, ap, ap₂, _∙_}
+use mathlib.Core.Bool.{true}
 use mathlib.Core.List.{List, [], _∷_, _++_, map, append-assoc}
 use Prim.Native.Nat.{ℕ, zero, suc, _+_, _-_, _*_, _≤_, _<_}
 use native.Mathlib.Nat.{suc-mul, zero-mul, zero-add, le-of-suc-le-suc, not-suc-le-zero, mul-le-mul-right}
 use native.Mathlib.Decide.{decLe}
 use native.Mathlib.Omega.{arith}
 use borrow.Author.Tests.{eqb-true, eq-eqb}
-use lib.ListN.{length, take, drop, getD, set, length-append, length-take, length-drop, length-map, List·getD-append}
+use lib.ListN.{length, take, drop, getD, set, length-append, length-drop, length-map, List·getD-append}
 use lib.Seq.{take-at, drop-at, take-append-add, drop-append-add, getD-append-add, getD-take, getD-drop, length-take-le, ext-getD}
 use Rattle.gf2.specs.Word.{Word}
 use Rattle.linecode.specs.Places.{linePlaces, lineBytes, places, lineOf}
 use Rattle.linecode.specs.Code.{upFrom}
 use Rattle.linecode.proofs.Line.{bytes-is, length-places}
-use Rattle.scheme.specs.Demand3.{_∈_, wordAt}
+use Rattle.scheme.specs.Demand3.{wordAt}
 use Rattle.rectangle.specs.Store.{bytesAt, placesAt, linesIn, bufferOf, putBytes, putLine}
 use Rattle.rectangle.specs.Refusals.{holds}
 use Rattle.rectangle.proofs.Members.{length-upFrom, map-upFrom}
@@ -206,7 +205,8 @@ module _ (k : ℕ) (buffer : List ℕ) (whole : length buffer ≡ k * lineBytes)
       length-one : length (bytesAt (putLine buffer n w) m) ≡ lineBytes
       length-one = length-bytesAt k (putLine buffer n w) length-putLine m h
 
-      keeps : (i : ℕ) → i < lineBytes → Dec (n ≤ m) → getD (putLine buffer n w) (m * lineBytes + i) 0 ≡ getD buffer (m * lineBytes + i) 0
+      keeps : (i : ℕ) → i < lineBytes → Dec (n ≤ m)
+          → getD (putLine buffer n w) (m * lineBytes + i) 0 ≡ getD buffer (m * lineBytes + i) 0
       keeps i b (yes p) =
           let later : n < m = omega arith in
           byte-after (m * lineBytes + i) (omega (arith, lines-le (suc n) m later))

@@ -1,28 +1,26 @@
 -- Demand 3 for rectangles in bytes: the exact return, that none look alike, and the four lines.
 use mathlib.Core.Path.{_≡_, refl, sym, ap, ap₂, subst, _∙_}
-use mathlib.Core.Logic.{_⊎_, inl, inr}
-use mathlib.Core.Bool.{Bool, true, false, _&&_}
-use mathlib.Core.List.{List, [], _∷_}
-use Prim.Native.Nat.{ℕ, _*_, _/_, _%_, _≤_, _<_}
-use native.Mathlib.Omega.{arith}
+use mathlib.Core.Bool.{true}
+use mathlib.Core.List.{List}
+use Prim.Native.Nat.{ℕ, _<_}
 use borrow.Author.Tests.{eq-eqb}
 use lib.ListN.{length}
-use Rattle.gf2.specs.Word.{Word, distance}
+use Rattle.gf2.specs.Word.{Word}
 use Rattle.scheme.specs.Layer.{readLine, Promises}
 use Rattle.scheme.specs.Visit.{Group}
 use Rattle.scheme.specs.Repair.{repair, linesOf, answer}
-use Rattle.scheme.specs.Demand3.{_∈_, wordAt, Returned}
+use Rattle.scheme.specs.Demand3.{Returned}
 use Rattle.scheme.specs.Demand3 as Scheme
 use Rattle.scheme.proofs.ExactReturn.{exact-return}
 use Rattle.rectangle.specs.Store.{lineLayer, placesAt, linesIn, bufferOf, groups}
 use Rattle.rectangle.specs.Refusals.{holds, repairRefusal}
-use Rattle.rectangle.specs.Tables.{rowTableOf, columnTableOf}
-use Rattle.rectangle.specs.Repair.{repaired, StoreRepaired, handedOver, repairStore}
-use Rattle.rectangle.specs.Demands.{Rectangle, count, repairOf, Written, EqualTables, Alike, DamagedSo, ExactReturn, NotAlike}
+use Rattle.rectangle.specs.Repair.{repaired, handedOver, repairStore}
+use Rattle.rectangle.specs.Demands.{Rectangle, count, repairOf, Written, Alike, DamagedSo, ExactReturn, NotAlike}
 use Rattle.rectangle.proofs.Buffer.{linesIn-equal}
 use Rattle.rectangle.proofs.Groups.{rising-groups, equal-groups}
+use Rattle.rectangle.proofs.Runs.{repair-runs}
 use Rattle.rectangle.proofs.Parity.{parities-pass}
-use Rattle.rectangle.proofs.Written.{wordsOf, some-rows, some-columns, written-bytes, written-accepted, written-row, written-column, store-written}
+use Rattle.rectangle.proofs.Written.{wordsOf, rectangleOf, some-rows, some-columns, written-bytes, written-accepted, written-row, written-column, store-written}
 use Rattle.rectangle.proofs.Order.{received, mendable}
 
 -- a rectangle of the same rows and columns
@@ -33,25 +31,6 @@ same-sides w r e f = ap₂ sided e f
     sided : ℕ → ℕ → Rectangle
     sided rows columns =
         record { rows = rows; columns = columns; lines = r .lines; rowTable = r .rowTable; columnTable = r .columnTable }
-
--- repair that is not refused hands over what its steps leave
-pub repair-runs : (rows columns : ℕ) (lines rowTable columnTable out marks : List ℕ)
-    → repairRefusal rows columns lines rowTable columnTable out marks ≡ 0
-    → repairStore rows columns lines rowTable columnTable out marks
-    ≡ handedOver (groups rows columns rowTable columnTable) (repaired rows columns lines rowTable columnTable)
-unfolding repairStore
-repair-runs rows columns lines rowTable columnTable out marks e = rw e
-
--- a rectangle written is given by its rows, its columns and its lines
-rectangleOf : ℕ → ℕ → List ℕ → Rectangle
-rectangleOf rows columns lines =
-    record {
-      rows = rows;
-      columns = columns;
-      lines = lines;
-      rowTable = rowTableOf rows columns lines;
-      columnTable = columnTableOf rows columns lines;
-    }
 
 written-is : (w : Rectangle) → Written w → w ≡ rectangleOf (w .rows) (w .columns) (bufferOf (wordsOf w))
 unfolding rectangleOf
@@ -105,7 +84,7 @@ module _ (promises : Promises lineLayer) where
           × (repairStore (w .rows) (w .columns) lines rowTable columnTable out marks .lines ≡ w .lines)
       unfolding handedOver repaired
       returns =
-          rw (repair-runs (w .rows) (w .columns) lines rowTable columnTable out marks not-refused)
+          rw (repair-runs (w .rows) (w .columns) lines rowTable columnTable out marks 0 not-refused refl)
           (steps-return .answers, ap bufferOf (steps-return .exactly) ∙ sym (written .lines))
 
   pub exactReturn : ExactReturn
@@ -139,8 +118,8 @@ module _ (promises : Promises lineLayer) where
 
   pub notAlike : NotAlike
   notAlike one two r s w v d d′ alike =
-      same-written one w (two .lines) (two .rowTable) (two .columnTable) (subst Written p v) (r .lines) (r .rowTable) (r .columnTable)
-      (s .lines) (s .rowTable) (s .columnTable) (subst (DamagedSo one) q d)
+      same-written one w (two .lines) (two .rowTable) (two .columnTable) (subst Written p v)
+      (r .lines) (r .rowTable) (r .columnTable) (s .lines) (s .rowTable) (s .columnTable) (subst (DamagedSo one) q d)
       (subst (DamagedSo (received one (two .lines) (two .rowTable) (two .columnTable))) t
       (subst (λ (x : Rectangle). DamagedSo x s) p d′))
       (subst (Alike (received one (r .lines) (r .rowTable) (r .columnTable))) t (subst (λ (x : Rectangle). Alike x s) q alike))
@@ -150,7 +129,9 @@ module _ (promises : Promises lineLayer) where
       t = same-sides one s (sym (alike .rows) ∙ d .rows) (sym (alike .columns) ∙ d .columns)
 
       p : two ≡ received one (two .lines) (two .rowTable) (two .columnTable)
-      p = same-sides one two (sym (d′ .rows) ∙ sym (alike .rows) ∙ d .rows) (sym (d′ .columns) ∙ sym (alike .columns) ∙ d .columns)
+      p =
+          same-sides one two (sym (d′ .rows) ∙ sym (alike .rows) ∙ d .rows)
+          (sym (d′ .columns) ∙ sym (alike .columns) ∙ d .columns)
 
       q : r ≡ received one (r .lines) (r .rowTable) (r .columnTable)
       q = same-sides one r (d .rows) (d .columns)

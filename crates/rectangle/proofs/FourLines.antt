@@ -3,12 +3,12 @@ use mathlib.Core.Path.{_≡_, refl, sym, ap, ap₂, subst, _∙_}
 use mathlib.Core.Logic.{_⊎_, inl, inr}
 use mathlib.Core.Bool.{Bool, true, false, true≢false}
 use mathlib.Core.List.{List, [], _∷_}
-use Prim.Native.Nat.{ℕ, _*_, _/_, _%_, _≤_, _<_}
+use Prim.Native.Nat.{ℕ, _/_, _%_, _≤_, _<_}
 use native.Mathlib.Omega.{arith}
 use lib.Dec.{T, lit≤}
 use lib.ListN.{length}
 use lib.Seq.{ext-getD}
-use Rattle.gf2.specs.Word.{Word, same, distance}
+use Rattle.gf2.specs.Word.{same, distance}
 use Rattle.gf2.proofs.Same.{same-refl, same-equal}
 use Rattle.linecode.specs.Code.{upFrom}
 use Rattle.scheme.specs.Layer.{Promises}
@@ -16,9 +16,9 @@ use Rattle.scheme.specs.Visit.{Group}
 use Rattle.scheme.specs.Demand3.{_∈_, RisingGroups, wordAt}
 use Rattle.scheme.specs.Demand3 as Scheme
 use Rattle.scheme.proofs.NotAlike.{another-differs, eight-bits}
-use Rattle.rectangle.specs.Store.{lineLayer, placesAt, linesIn, row, column, rowGroup, columnGroup, groups}
+use Rattle.rectangle.specs.Store.{lineLayer, placesAt, row, column, rowGroup, columnGroup, groups}
 use Rattle.rectangle.specs.Refusals.{every}
-use Rattle.rectangle.specs.Demands.{Rectangle, count, Written, EqualTables, Distinct, FourLinesApart, EqualOrFourLines}
+use Rattle.rectangle.specs.Demands.{Rectangle, count, Written, EqualTables, FourLinesApart, EqualOrFourLines}
 use Rattle.rectangle.proofs.Members.{upFrom-bounds}
 use Rattle.rectangle.proofs.Tests.{below-every, some-fails}
 use Rattle.rectangle.proofs.Buffer.{length-linesIn, linesIn-at, linesIn-equal}
@@ -29,7 +29,8 @@ use Rattle.rectangle.proofs.Demand3.{same-sides, same-lines}
 
 module _ (promises : Promises lineLayer) where
   module _ (one : Rectangle) (w : Written one) (lines rowTable columnTable : List ℕ)
-      (v : Written (received one lines rowTable columnTable)) (equal : EqualTables one (received one lines rowTable columnTable)) where
+      (v : Written (received one lines rowTable columnTable))
+      (equal : EqualTables one (received one lines rowTable columnTable)) where
     two : Rectangle
     two = received one lines rowTable columnTable
 
@@ -63,13 +64,14 @@ module _ (promises : Promises lineLayer) where
     Differs n = wordAt (wordsOf one) n ≡ wordAt (wordsOf two) n → ⊥
 
     -- where a line differs, so does another of its row, and another of its column
-    row-differs : (n : ℕ) → n < count one → Differs n → (m : ℕ) × (m ∈ row (one .columns) (n / one .columns)) × (m ≡ n → ⊥) × Differs m
+    row-differs : (n : ℕ) → n < count one → Differs n
+        → (m : ℕ) × (m ∈ row (one .columns) (n / one .columns)) × (m ≡ n → ⊥) × Differs m
     unfolding gs Differs
     row-differs n h d =
         another-differs lineLayer promises gs rising (wordsOf one) (wordsOf two) first-written second-written same-length
         (rowGroup (one .columns) (one .rowTable) (n / one .columns))
-        (row-listed (one .rows) (one .columns) some (one .rowTable) (one .columnTable) _ (row-below (one .rows) (one .columns) some n h)) n
-        (in-row (one .rows) (one .columns) some n) d
+        (row-listed (one .rows) (one .columns) some (one .rowTable) (one .columnTable) _
+        (row-below (one .rows) (one .columns) some n h)) n (in-row (one .rows) (one .columns) some n) d
 
     column-differs : (n : ℕ) → n < count one → Differs n
         → (m : ℕ) × (m ∈ column (one .rows) (one .columns) (n % one .columns)) × (m ≡ n → ⊥) × Differs m
@@ -77,8 +79,8 @@ module _ (promises : Promises lineLayer) where
     column-differs n h d =
         another-differs lineLayer promises gs rising (wordsOf one) (wordsOf two) first-written second-written same-length
         (columnGroup (one .rows) (one .columns) (one .columnTable) (n % one .columns))
-        (column-listed (one .rows) (one .columns) some (one .rowTable) (one .columnTable) _ (column-below (one .rows) (one .columns) some n))
-        n (in-column (one .rows) (one .columns) some n h) d
+        (column-listed (one .rows) (one .columns) some (one .rowTable) (one .columnTable) _
+        (column-below (one .rows) (one .columns) some n)) n (in-column (one .rows) (one .columns) some n h) d
 
     -- a line differs where its places do
     places-differ : (n : ℕ) → n < count one → (placesAt (one .lines) n ≡ placesAt lines n → ⊥) → Differs n

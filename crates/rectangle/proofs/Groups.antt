@@ -1,7 +1,7 @@
 -- Rows and columns: each line of the rectangle is in exactly its row and its column, and all groups rise.
-use mathlib.Core.Path.{_≡_, refl, sym, ap, ap₂, subst, _∙_}
+use mathlib.Core.Path.{_≡_, sym, ap, ap₂, subst, _∙_}
 use mathlib.Core.Logic.{_⊎_, inl, inr}
-use mathlib.Core.Bool.{Bool, true, false, and-eq-true-iff}
+use mathlib.Core.Bool.{true, and-eq-true-iff}
 use mathlib.Core.List.{List, map, _++_}
 use Prim.Native.Nat.{ℕ, suc, _+_, _*_, _/_, _%_, _≤_, _<_}
 use native.Mathlib.Nat.{zero-add, suc-mul, div-add-mod', mod-lt, mod-eq-of-lt, div-eq-of-lt, div-lt-iff-lt-mul, mul-add-div-right, add-mul-mod-self-right, mul-le-mul-right}
@@ -93,6 +93,14 @@ module _ (rows columns : ℕ) (some : 0 < columns) where
   same-line n m e f =
       sym (div-add-mod' n columns) ∙ ap₂ (λ (a b : ℕ). a * columns + b) e f ∙ div-add-mod' m columns
 
+  pub rising-row : (r : ℕ) → Rising (row columns r)
+  unfolding row
+  rising-row r = rising-stride (r * columns) 1 columns (omega arith)
+
+  pub rising-column : (c : ℕ) → Rising (column rows columns c)
+  unfolding column
+  rising-column c = rising-stride c columns rows some
+
   -- row r and column c lie inside
   pub line-inside : (r c : ℕ) → r < rows → c < columns → r * columns + c < rows * columns
   line-inside r c h k =
@@ -101,27 +109,32 @@ module _ (rows columns : ℕ) (some : 0 < columns) where
 
   -- ---- the list of groups
   module _ (rowTable columnTable : List ℕ) where
+    rowGroups : List Group
+    rowGroups = map (rowGroup columns rowTable) (upFrom 0 rows)
+
+    columnGroups : List Group
+    columnGroups = map (columnGroup rows columns columnTable) (upFrom 0 columns)
+
     pub row-listed : (r : ℕ) → r < rows → rowGroup columns rowTable r ∈ groups rows columns rowTable columnTable
-    unfolding groups
+    unfolding groups rowGroups columnGroups
     row-listed r h =
-        in-left (map (rowGroup columns rowTable) (upFrom 0 rows)) (map (columnGroup rows columns columnTable) (upFrom 0 columns)) _
+        in-left rowGroups columnGroups _
         (in-map (rowGroup columns rowTable) (upFrom 0 rows) r (rw zero-add at (in-upFrom 0 rows r h)))
 
     pub column-listed : (c : ℕ) → c < columns → columnGroup rows columns columnTable c ∈ groups rows columns rowTable columnTable
-    unfolding groups
+    unfolding groups rowGroups columnGroups
     column-listed c h =
-        in-right (map (rowGroup columns rowTable) (upFrom 0 rows)) (map (columnGroup rows columns columnTable) (upFrom 0 columns)) _
+        in-right rowGroups columnGroups _
         (in-map (columnGroup rows columns columnTable) (upFrom 0 columns) c (rw zero-add at (in-upFrom 0 columns c h)))
 
     -- every group is a row or a column
     pub row-or-column : (g : Group) → g ∈ groups rows columns rowTable columnTable
         → ((r : ℕ) × (r < rows) × (g ≡ rowGroup columns rowTable r))
         ⊎ ((c : ℕ) × (c < columns) × (g ≡ columnGroup rows columns columnTable c))
-    unfolding groups
-    row-or-column g i =
-        go (append-from (map (rowGroup columns rowTable) (upFrom 0 rows)) (map (columnGroup rows columns columnTable) (upFrom 0 columns)) g i)
+    unfolding groups rowGroups columnGroups
+    row-or-column g i = go (append-from rowGroups columnGroups g i)
       where
-        go : (g ∈ map (rowGroup columns rowTable) (upFrom 0 rows)) ⊎ (g ∈ map (columnGroup rows columns columnTable) (upFrom 0 columns))
+        go : (g ∈ rowGroups) ⊎ (g ∈ columnGroups)
             → ((r : ℕ) × (r < rows) × (g ≡ rowGroup columns rowTable r))
             ⊎ ((c : ℕ) × (c < columns) × (g ≡ columnGroup rows columns columnTable c))
         go (inl j) =
@@ -142,11 +155,23 @@ module _ (rows columns : ℕ) (some : 0 < columns) where
         go (inl r) = subst P (sym (r .2)) (h (r .0) (r .1))
         go (inr c) = subst P (sym (c .2)) (k (c .0) (c .1))
 
+    -- a line is in no group but its row and its column
+    pub home-groups : (g : Group) → g ∈ groups rows columns rowTable columnTable → (n : ℕ) → n ∈ g .members
+        → (g ≡ rowGroup columns rowTable (n / columns)) ⊎ (g ≡ columnGroup rows columns columnTable (n % columns))
+    home-groups g i n = go (row-or-column g i)
+      where
+        go : ((r : ℕ) × (r < rows) × (g ≡ rowGroup columns rowTable r))
+            ⊎ ((c : ℕ) × (c < columns) × (g ≡ columnGroup rows columns columnTable c)) → n ∈ g .members
+            → (g ≡ rowGroup columns rowTable (n / columns)) ⊎ (g ≡ columnGroup rows columns columnTable (n % columns))
+        go (inl r) j =
+            let e : n / columns ≡ r .0 = row-number (r .0) n (subst (λ (h : Group). n ∈ h .members) (r .2) j) in
+            inl (r .2 ∙ ap (rowGroup columns rowTable) (sym e))
+        go (inr c) j =
+            let e : n % columns ≡ c .0 = column-number (c .0) n (c .1) (subst (λ (h : Group). n ∈ h .members) (c .2) j) in
+            inr (c .2 ∙ ap (columnGroup rows columns columnTable) (sym e))
+
     pub rising-groups : RisingGroups (groups rows columns rowTable columnTable)
-    unfolding row column
-    rising-groups =
-        by-groups (λ g. Rising (g .members)) (λ r h. rising-stride (r * columns) 1 columns (omega arith))
-        (λ c h. rising-stride c columns rows some)
+    rising-groups = by-groups (λ g. Rising (g .members)) (λ r h. rising-row r) (λ c h. rising-column c)
 
     pub groups-inside : (g : Group) → g ∈ groups rows columns rowTable columnTable → (m : ℕ) → m ∈ g .members → m < rows * columns
     groups-inside =

@@ -6,8 +6,15 @@ pub mod Buffer
 pub mod Copying
 pub mod Groups
 pub mod Tests
+pub mod Runs
+pub mod Refused
+pub mod Writing
 pub mod Parity
 pub mod Written
 pub mod Order
 pub mod Demand3
 pub mod FourLines
+pub mod Agreement
+pub mod Change
+pub mod Loops
+pub mod Example

@@ -1,17 +1,17 @@
 -- The order of demand 3 in rows and columns, as the scheme's theory sees it: by groups.
 use mathlib.Core.Path.{_≡_, refl, sym, ap, ap₂, subst, _∙_}
 use mathlib.Core.Logic.{_⊎_, inl, inr}
-use mathlib.Core.Bool.{Bool, true, false}
+use mathlib.Core.Bool.{false}
 use mathlib.Core.List.{List, [], _∷_}
-use Prim.Native.Nat.{ℕ, _*_, _/_, _%_, _≤_, _<_}
+use Prim.Native.Nat.{ℕ, _/_, _%_, _<_}
 use native.Mathlib.Omega.{arith}
 use lib.ListN.{length, getD}
 use Rattle.gf2.specs.Word.{Word, _⊕_, distance}
 use Rattle.linecode.specs.Places.{lineBytes}
 use Rattle.scheme.specs.Visit.{Group}
-use Rattle.scheme.specs.Demand3.{_∈_, wordAt}
+use Rattle.scheme.specs.Demand3.{_∈_}
 use Rattle.scheme.specs.Demand3 as Scheme
-use Rattle.rectangle.specs.Store.{lineLayer, placesAt, linesIn, row, column, rowGroup, columnGroup, groups}
+use Rattle.rectangle.specs.Store.{lineLayer, linesIn, row, column, rowGroup, columnGroup, groups}
 use Rattle.rectangle.specs.Demands.{Rectangle, count, Distinct, damage, damagedAt, Alone, Paired, Turn, Turns, DamagedSo}
 use Rattle.rectangle.proofs.Buffer.{length-placesAt, length-linesIn, linesIn-at, holds-length}
 use Rattle.rectangle.proofs.Groups.{in-row, row-number, row-below, in-column, column-number, column-below, row-listed, column-listed}

@@ -1,25 +1,24 @@
 -- "Of correct lines a parity line is itself a correct line": tables made from lines that read alone as accepted.
-use mathlib.Core.Path.{_≡_, refl, sym, ap, _∙_}
+use mathlib.Core.Path.{_≡_, sym, ap, _∙_}
 use mathlib.Core.Logic.{_⊎_, inl, inr}
-use mathlib.Core.Bool.{Bool, true, false, not, false≢true}
-use mathlib.Core.List.{List, [], _∷_, map}
+use mathlib.Core.Bool.{true, not}
+use mathlib.Core.List.{List}
 use Prim.Native.Nat.{ℕ, zero, suc, _+_, _*_, _≤_, _<_}
-use native.Mathlib.Nat.{zero-add, not-suc-le-zero}
+use native.Mathlib.Nat.{not-suc-le-zero}
 use native.Mathlib.Omega.{arith}
-use borrow.Author.Tests.{eqb-false, ne-eqb, eq-eqb, not-true}
-use lib.Dec.{T, eqb}
-use lib.ListN.{length, length-map}
+use borrow.Author.Tests.{eqb-false, ne-eqb, not-true}
+use lib.ListN.{length}
 use Rattle.gf2.specs.Word.{Word, same}
 use Rattle.gf2.proofs.Weight.{distance-self}
 use Rattle.gf2.proofs.Same.{same-refl}
-use Rattle.linecode.specs.Places.{linePlaces, lineBytes}
-use Rattle.linecode.specs.Code.{upFrom, Correct, isCorrect, codeword, dataOf}
-use Rattle.scheme.specs.Layer.{Cell, readLine, CorrectLine, parityAddress, ReadsAs, Promises}
-use Rattle.scheme.specs.Visit.{Group, isFaulty, sum}
-use Rattle.scheme.specs.Demand3.{_∈_, wordAt}
+use Rattle.linecode.specs.Places.{lineBytes}
+use Rattle.linecode.specs.Code.{Correct, isCorrect}
+use Rattle.scheme.specs.Layer.{readLine, CorrectLine, parityAddress, ReadsAs, Promises}
+use Rattle.scheme.specs.Visit.{Group, sum}
+use Rattle.scheme.specs.Demand3.{_∈_}
 use Rattle.scheme.proofs.Written.{parity-correct}
-use Rattle.rectangle.specs.Store.{lineLayer, correctUnder, placesAt, bufferOf, aloneAt, stride, row, column, rowGroup, columnGroup, groups}
-use Rattle.rectangle.specs.Refusals.{every, sidesFit, parityCorrect, acceptedAt}
+use Rattle.rectangle.specs.Store.{lineLayer, correctUnder, placesAt, aloneAt, stride, row, column, rowGroup, columnGroup, groups}
+use Rattle.rectangle.specs.Refusals.{every, parityCorrect, acceptedAt}
 use Rattle.rectangle.specs.Tables.{rowParity, columnParity, rowTableOf, columnTableOf}
 use Rattle.rectangle.proofs.Buffer.{length-placesAt, table-at}
 use Rattle.rectangle.proofs.Groups.{row-inside, column-inside, by-groups}
@@ -39,9 +38,11 @@ parity-passes g w e c = ap (correctUnder (parityAddress lineLayer (g .members)))
 module _ (promises : Promises lineLayer) where
   -- a correct line reads alone as itself
   pub correct-reads : (n : ℕ) (w : Word) → CorrectLine lineLayer n w → ReadsAs w (readLine lineLayer n w)
-  correct-reads n w c = promises .corrects (lineLayer .address n) w w c (promises .sized (lineLayer .address n) w c) (omega (arith, distance-self w))
+  correct-reads n w c =
+      promises .corrects (lineLayer .address n) w w c (promises .sized (lineLayer .address n) w c) (omega (arith, distance-self w))
 
-  pub alone-correct : (lines : List ℕ) (n : ℕ) → CorrectLine lineLayer n (placesAt lines n) → aloneAt lines n .line ≡ placesAt lines n
+  pub alone-correct : (lines : List ℕ) (n : ℕ) → CorrectLine lineLayer n (placesAt lines n)
+      → aloneAt lines n .line ≡ placesAt lines n
   unfolding aloneAt
   alone-correct lines n c = correct-reads n (placesAt lines n) c .gives
 
@@ -60,9 +61,9 @@ module _ (promises : Promises lineLayer) where
 
   -- ---- lines that read alone as accepted
   module _ (k : ℕ) (lines : List ℕ) (whole : length lines ≡ k * lineBytes) where
-    pub alone-sized : (n : ℕ) → n < k → acceptedAt lines n ≡ true → CorrectLine lineLayer n (aloneAt lines n .line)
+    pub accepted-correct : (n : ℕ) → n < k → acceptedAt lines n ≡ true → CorrectLine lineLayer n (aloneAt lines n .line)
     unfolding acceptedAt aloneAt
-    alone-sized n h e =
+    accepted-correct n h e =
         go (promises .sound (lineLayer .address n) (placesAt lines n) (length-placesAt k lines whole n h))
       where
         go : (readLine lineLayer n (placesAt lines n) .mark ≡ 4)
@@ -74,7 +75,8 @@ module _ (promises : Promises lineLayer) where
 
   -- ---- the tables made from them
   module _ (rows columns : ℕ) (someRows : 0 < rows) (some : 0 < columns) (lines : List ℕ)
-      (whole : length lines ≡ rows * columns * lineBytes) (accepted : (n : ℕ) → n < rows * columns → acceptedAt lines n ≡ true) where
+      (whole : length lines ≡ rows * columns * lineBytes)
+      (accepted : (n : ℕ) → n < rows * columns → acceptedAt lines n ≡ true) where
     pub rowParity-correct : (r : ℕ) → r < rows
         → lineLayer .Correct (parityAddress lineLayer (row columns r)) (rowParity columns lines r)
     unfolding rowParity row
@@ -82,7 +84,7 @@ module _ (promises : Promises lineLayer) where
         sum-correct (λ n. aloneAt lines n .line) (r * columns) 1 columns some
         (λ m i.
         let inside : m < rows * columns = row-inside rows columns some r m h i in
-        alone-sized (rows * columns) lines whole m inside (accepted m inside))
+        accepted-correct (rows * columns) lines whole m inside (accepted m inside))
 
     pub columnParity-correct : (c : ℕ) → c < columns
         → lineLayer .Correct (parityAddress lineLayer (column rows columns c)) (columnParity rows columns lines c)
@@ -91,7 +93,7 @@ module _ (promises : Promises lineLayer) where
         sum-correct (λ n. aloneAt lines n .line) c columns rows someRows
         (λ m i.
         let inside : m < rows * columns = column-inside rows columns some c m h i in
-        alone-sized (rows * columns) lines whole m inside (accepted m inside))
+        accepted-correct (rows * columns) lines whole m inside (accepted m inside))
 
     -- parity lines read back from the tables made
     pub rowTable-at : (r : ℕ) → r < rows → placesAt (rowTableOf rows columns lines) r ≡ rowParity columns lines r

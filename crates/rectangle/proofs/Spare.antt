@@ -1,11 +1,11 @@
 -- A line of 553 places, made into 70 bytes and read again, has the same places.
 use mathlib.Core.Path.{_≡_, refl, sym, ap, ap₂, _∙_}
-use mathlib.Core.Bool.{Bool, true, false}
-use mathlib.Core.List.{List, [], _∷_, _++_, append-assoc}
+use mathlib.Core.Bool.{false}
+use mathlib.Core.List.{[], _∷_, _++_, append-assoc}
 use Prim.Native.Nat.{ℕ, zero, suc, _+_, _-_, _*_, _/_, _^_, _≤_}
 use native.Mathlib.Decide.{decLe}
 use native.Mathlib.Omega.{arith}
-use lib.ListN.{length, take, drop, length-append, length-drop, length-take, take-append-drop, drop-of-length-le}
+use lib.ListN.{length, take, drop, length-append, length-drop, take-append-drop}
 use lib.Seq.{take-all, take-at, drop-at, length-take-le, append-snoc}
 use Rattle.gf2.specs.Word.{Word, digits, number}
 use Rattle.gf2.proofs.Digits.{digits-number, digits-add}
@@ -75,7 +75,8 @@ places-lineOf w e =
 
     front : take protectedPlaces (bitsOf (bytesOf lineBytes (p ++ (false ∷ h)))) ≡ p
     front =
-        ap (take protectedPlaces) (bits .1 ∙ append-assoc p (false ∷ h) rest) ∙ take-at p ((false ∷ h) ++ rest) protectedPlaces length-p
+        ap (take protectedPlaces) (bits .1 ∙ append-assoc p (false ∷ h) rest)
+        ∙ take-at p ((false ∷ h) ++ rest) protectedPlaces length-p
 
     back : take hammingPlaces (drop (suc protectedPlaces) (bitsOf (bytesOf lineBytes (p ++ (false ∷ h))))) ≡ h
     back =

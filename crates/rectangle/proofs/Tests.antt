@@ -1,9 +1,9 @@
 -- Tests and refusals: what a test that passes tells, and that a call whose tests all pass is not refused.
-use mathlib.Core.Path.{_≡_, refl, sym, ap, _∙_}
+use mathlib.Core.Path.{_≡_, refl, ap, _∙_}
 use mathlib.Core.Logic.{inl, inr}
 use mathlib.Core.Bool.{Bool, true, false, not, _&&_, true≢false, and-eq-true-iff}
 use mathlib.Core.List.{List, [], _∷_}
-use Prim.Native.Nat.{ℕ, _+_, _*_, _<_}
+use Prim.Native.Nat.{ℕ, _*_, _<_}
 use native.Mathlib.Nat.{zero-add}
 use native.Mathlib.Omega.{arith}
 use Rattle.linecode.specs.Places.{lineBytes}
@@ -74,7 +74,8 @@ module _ (rows columns : ℕ) (lines rowTable columnTable : List ℕ) where
   tables-pass a =
       rw (a .sides, a .lineBytes, a .tableBytes, every-below (acceptedAt lines) (rows * columns) (a .accepted))
 
-  pub tables-passed : tablesRefusal rows columns lines rowTable columnTable ≡ 0 → TablesAsked rows columns lines rowTable columnTable
+  pub tables-passed : tablesRefusal rows columns lines rowTable columnTable ≡ 0
+      → TablesAsked rows columns lines rowTable columnTable
   unfolding tablesRefusal
   tables-passed e =
       let two = passed (sidesFit rows columns) 2 _ (λ z. omega arith) e in

@@ -1,6 +1,6 @@
 -- A rectangle written, as the scheme's theory sees it: correct lines, and parity lines that are the sums of their groups.
-use mathlib.Core.Path.{_≡_, refl, sym, ap, ap₂, subst, _∙_}
-use mathlib.Core.Bool.{Bool, true, false}
+use mathlib.Core.Path.{_≡_, refl, sym, ap, subst, _∙_}
+use mathlib.Core.Bool.{true}
 use mathlib.Core.List.{List}
 use Prim.Native.Nat.{ℕ, _*_, _<_}
 use native.Mathlib.Omega.{arith}
@@ -12,17 +12,28 @@ use Rattle.scheme.specs.Visit.{Group, sum}
 use Rattle.scheme.specs.Demand3.{_∈_, wordAt}
 use Rattle.scheme.specs.Demand3 as Scheme
 use Rattle.scheme.proofs.Sums.{sum-ext}
-use Rattle.rectangle.specs.Store.{lineLayer, placesAt, linesIn, bufferOf, aloneAt, row, column, rowGroup, columnGroup, groups}
-use Rattle.rectangle.specs.Refusals.{acceptedAt}
+use Rattle.rectangle.specs.Store.{lineLayer, placesAt, linesIn, bufferOf, aloneAt, row, column, groups}
+use Rattle.rectangle.specs.Refusals.{sidesFit, acceptedAt}
 use Rattle.rectangle.specs.Tables.{rowParity, columnParity, rowTableOf, columnTableOf}
 use Rattle.rectangle.specs.Demands.{Rectangle, count, Written}
-use Rattle.rectangle.proofs.Buffer.{length-linesIn, linesIn-at, length-bufferOf}
+use Rattle.rectangle.proofs.Buffer.{Sized, length-linesIn, linesIn-at, linesIn-bufferOf, placesAt-bufferOf, length-bufferOf}
 use Rattle.rectangle.proofs.Groups.{Sides, sides, row-inside, column-inside, by-groups}
 use Rattle.rectangle.proofs.Parity.{alone-correct, correct-accepted, rowTable-at, columnTable-at}
 
 -- the places of a rectangle's lines
 abbrev pub wordsOf : Rectangle → List Word
 wordsOf r = linesIn (count r) (r .lines)
+
+-- the rectangle of some lines, with the tables made from them
+unfoldable pub rectangleOf : ℕ → ℕ → List ℕ → Rectangle
+rectangleOf rows columns lines =
+    record {
+      rows = rows;
+      columns = columns;
+      lines = lines;
+      rowTable = rowTableOf rows columns lines;
+      columnTable = columnTableOf rows columns lines;
+    }
 
 module _ (promises : Promises lineLayer) (w : Rectangle) (written : Written w) where
   pub all-sides : Sides (w .rows) (w .columns)
@@ -93,3 +104,22 @@ module _ (promises : Promises lineLayer) (w : Rectangle) (written : Written w) w
             (λ g. g .parity ≡ sum (wordAt (wordsOf w)) (g .members))
             (λ r h. rowsAgree r h ∙ written-row r h ∙ row-sum r h)
             (λ c h. columnsAgree c h ∙ written-column c h ∙ column-sum c h)
+
+-- correct lines make a rectangle written
+pub correct-written : Promises lineLayer → (rows columns : ℕ) (ws : List Word) → sidesFit rows columns ≡ true
+    → length ws ≡ rows * columns → ((n : ℕ) → n < length ws → CorrectLine lineLayer n (wordAt ws n))
+    → Written (rectangleOf rows columns (bufferOf ws))
+unfolding rectangleOf
+correct-written promises rows columns ws fit e correct =
+    record {
+      sides = fit;
+      lines = sym (ap bufferOf (ap (λ (k : ℕ). linesIn k (bufferOf ws)) (sym e) ∙ linesIn-bufferOf ws sized));
+      correct = λ n h.
+          let inside : n < length ws = omega arith in
+          subst (CorrectLine lineLayer n) (sym (placesAt-bufferOf ws sized n inside)) (correct n inside);
+      rowTable = refl;
+      columnTable = refl;
+    }
+  where
+    sized : Sized ws
+    sized n h = promises .sized (lineLayer .address n) (wordAt ws n) (correct n h)

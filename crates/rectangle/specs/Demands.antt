@@ -5,7 +5,7 @@ use mathlib.Core.Bool.{Bool, true, false}
 use mathlib.Core.List.{List, [], _∷_}
 use Prim.Native.Nat.{ℕ, _*_, _/_, _%_, _≤_, _<_}
 use lib.ListN.{length, getD}
-use Rattle.gf2.specs.Word.{Word, _⊕_, distance}
+use Rattle.gf2.specs.Word.{_⊕_, distance}
 use Rattle.linecode.specs.Places.{dataBytes}
 use Rattle.scheme.specs.Layer.{CorrectLine, readLine, parityAddress}
 use Rattle.scheme.specs.Repair.{pass, linesOf, marksOf}
@@ -80,6 +80,7 @@ GivenUpLast =
 -- a rectangle written has correct lines only and the tables made from them, all spare bits 0
 pub record Written (r : Rectangle) : Type 0 where
   pub sides : sidesFit (r .rows) (r .columns) ≡ true
+  -- its bytes are those of its lines' places
   pub lines : r .lines ≡ bufferOf (linesIn (count r) (r .lines))
   pub correct : (n : ℕ) → n < count r → CorrectLine lineLayer n (placesAt (r .lines) n)
   pub rowTable : r .rowTable ≡ rowTableOf (r .rows) (r .columns) (r .lines)
@@ -110,7 +111,7 @@ module _ (written received : Rectangle) where
   abbrev pub damagedAt : ℕ → ℕ → Bool
   damagedAt n place = getD (placesAt (written .lines) n ⊕ placesAt (received .lines) n) place false
 
-  -- of line n's row or column, given by the number that each line has of it: it holds no other line left
+  -- the row or the column of line n, given as the number that each line has of it, holds no other line left
   abbrev pub Alone : (ℕ → ℕ) → ℕ → List ℕ → Type 0
   Alone groupOf n later = (m : ℕ) → m ∈ later → groupOf m ≡ groupOf n → ⊥
 
@@ -136,23 +137,25 @@ module _ (written received : Rectangle) where
   Turns (n ∷ later) =
       (Turn (λ m. m / written .columns) n later ⊎ Turn (λ m. m % written .columns) n later) × Turns later
 
-  -- damaged so: undamaged tables; no line has more than five damaged bits; in the order stands each line with two or more, once,
-  -- and no other. What is handed to repair has the lengths that refusals 5 and 6 ask for
+  -- damaged so, as demand 3 asks
   pub record DamagedSo : Type 0 where
+    -- what is handed to repair has the rows and columns written, and the lengths that refusals 5 and 6 ask for
     pub rows : received .rows ≡ written .rows
     pub columns : received .columns ≡ written .columns
     pub lineBytes : holds (count received) (received .lines) ≡ true
     pub tableBytes : tablesFit (received .rows) (received .columns) (received .rowTable) (received .columnTable) ≡ true
+    -- both parity tables are undamaged, and no line has more than five damaged bits
     pub tables : EqualTables received written
     pub five : (n : ℕ) → n < count written → damage n ≤ 5
+    -- in the order stands each line with two or more damaged bits, once, and no other line
     pub order : List ℕ
     pub once : Distinct order
     pub each : (n : ℕ) → n < count written → 2 ≤ damage n → n ∈ order
     pub noOther : (n : ℕ) → n ∈ order → (n < count written) × (2 ≤ damage n)
     pub turns : Turns order
 
--- ---- Demand 3: "For every rectangle written, whatever bits were damaged since: if .. then repair answers 0 and returns exactly the
--- rectangle written, byte for byte."
+-- ---- Demand 3: "For every rectangle written, whatever bits were damaged since: if .. then repair answers 0 and returns exactly
+-- the rectangle written, byte for byte."
 abbrev pub ExactReturn : Type 0
 ExactReturn =
     (written received : Rectangle) → Written written → DamagedSo written received → (out marks : List ℕ)

@@ -69,17 +69,19 @@ module _ (out marks : List ℕ) (s : State) (h : Holding out marks s) where
       record {
         wide = wide-put;
         lines =
-          ap (λ (b : List ℕ). putBytes b n (lineOf w)) (h .lines)
-          ∙ putLine-bufferOf (linesOf s) n w (omega (arith, lines-length))
-          ∙ ap bufferOf (sym (map-set (λ c. c .line) s n (record { line = w; mark = m })));
+            ap (λ (b : List ℕ). putBytes b n (lineOf w)) (h .lines)
+            ∙ putLine-bufferOf (linesOf s) n w (omega (arith, lines-length))
+            ∙ ap bufferOf (sym (map-set (λ c. c .line) s n (record { line = w; mark = m })));
         marked =
-          ap (λ (l : List ℕ). set l n m) (h .marked) ∙ sym (map-set (λ c. c .mark) s n (record { line = w; mark = m }));
+            ap (λ (l : List ℕ). set l n m) (h .marked) ∙ sym (map-set (λ c. c .mark) s n (record { line = w; mark = m }));
       }
     where
       c : Cell
       c = record { line = w; mark = m }
+
       none : Cell
       none = record { line = []; mark = 0 }
+
       wide-put : (k : ℕ) → k < length (set s n c) → length (lineAt (set s n c) k) ≡ linePlaces
       wide-put k j = go (ℕ-discrete k n)
         where

@@ -50,7 +50,7 @@ pub first-member : (marks : List ℕ) (ms : List ℕ) → length (faultyAmong ma
 unfolding faultyAmong
 first-member marks ms e =
     let found : getD (faultyAmong marks ms) 0 0 ∈ faultyAmong marks ms =
-      subst (λ (l : List ℕ). getD (faultyAmong marks ms) 0 0 ∈ l) (sym (one-only (faultyAmong marks ms) e)) (inl refl) in
+    subst (λ (l : List ℕ). getD (faultyAmong marks ms) 0 0 ∈ l) (sym (one-only (faultyAmong marks ms) e)) (inl refl) in
     (selected (λ n. eqb (getD marks n 0) 4) ms (getD (faultyAmong marks ms) 0 0) found) .0
 
 -- the only faulty line is inside
@@ -96,47 +96,64 @@ module _ (out marks : List ℕ) (first step count : ℕ) (lent : Lent out marks 
     where
       ms : List ℕ
       ms = stride first step count
+
       p : Word
       p = places parity
+
       member : n ∈ ms
       member = subst (λ (m : ℕ). m ∈ ms) (sym n-is) (first-member marks ms only)
+
       n-inside : n < length marks
       n-inside = member-inside first step count (length marks) n (lent .inside) member
+
       n-below : n < length s
       n-below = omega (arith, n-inside, held-count out marks s h)
+
       word : Word
       word = p ⊕ sum (lineAt s) (without n ms)
+
       total : sum (placesAt out) ms ≡ lineAt s n ⊕ sum (lineAt s) (without n ms)
       total =
           held-sum out marks s h ms
           (λ m i. omega (arith, member-inside first step count (length marks) m (lent .inside) i, held-count out marks s h))
           ∙ sum-split (lineAt s) n ms (rising-stride first step count (lent .inside .apart)) member
+
       whole : length (sum (placesAt out) ms) ≡ linePlaces
       whole = group-long out first step count (lent-lines out marks first step count lent)
+
       wide : length p ≡ linePlaces
       wide = length-places parity parity-bytes
+
       own : length (lineAt s n) ≡ linePlaces
       own = h .wide n n-below
+
       sums-are : places sums ≡ sum (placesAt out) ms
       sums-are = ap places a ∙ places-lineOf (sum (placesAt out) ms) whole
+
       both : length (p ⊕ sum (placesAt out) ms) ≡ linePlaces
       both = length-xor-same p (sum (placesAt out) ms) (wide ∙ sym whole) ∙ wide
+
       all-are : places all ≡ p ⊕ sum (placesAt out) ms
       all-are =
           ap places (b ∙ ap (λ (x : Word). lineOf (p ⊕ x)) sums-are) ∙ places-lineOf (p ⊕ sum (placesAt out) ms) both
+
       line-is : places line ≡ lineAt s n
       line-is = ap places (c ∙ held-bytes out marks s h n n-below) ∙ places-lineOf (lineAt s n) own
+
       word-is : places all ⊕ places line ≡ word
       word-is =
           ap₂ _⊕_ (all-are ∙ ap (λ (x : Word). p ⊕ x) total) line-is
           ∙ others p (lineAt s n) (sum (lineAt s) (without n ms)) (own ∙ sym wide)
+
       long : length word ≡ linePlaces
       long =
           ap length (sym word-is)
           ∙ length-xor-same (places all) (places line) (ap length all-are ∙ both ∙ sym (ap length line-is ∙ own))
           ∙ ap length all-are ∙ both
+
       rebuilt-is : rebuilt ≡ lineOf word
       rebuilt-is = d ∙ ap lineOf word-is
+
       settled : settle (groupAt first step count parity) s ≡ set s n (record { line = word; mark = 3 })
       settled =
           ap (rebuildOnly (groupAt first step count parity) s)

@@ -91,11 +91,11 @@ module _ (line ps : List ℕ) (n j : ℕ) (s : Searching line ps n j) where
         record {
           few = omega arith;
           same = λ c e.
-            rest c e
-            ∙ ap
-            (λ (b : Bool). cond b (tryPlaces (readLine lineLayer) n c (drop (suc j) ps)) (record { line = readAlone (places flipped) .word; mark = 2 }))
-            (eq-eqb (readAlone (places flipped) .mark) 4 (sym tried-mark ∙ q))
-            ∙ ap (λ (k : ℕ). tryPlaces (readLine lineLayer) n c (drop k ps)) (sym (add-one j));
+              rest c e
+              ∙ ap
+              (λ (b : Bool). cond b (tryPlaces (readLine lineLayer) n c (drop (suc j) ps)) (record { line = readAlone (places flipped) .word; mark = 2 }))
+              (eq-eqb (readAlone (places flipped) .mark) 4 (sym tried-mark ∙ q))
+              ∙ ap (λ (k : ℕ). tryPlaces (readLine lineLayer) n c (drop k ps)) (sym (add-one j));
         }
 
     pub searching-found : (tried .mark ≡ 4 → ⊥) → (c : Cell) → c .line ≡ places line
@@ -161,16 +161,17 @@ module _ (out₀ marks₀ : List ℕ) (first step count : ℕ) (ps out marks : L
   turn out′ marks′ a b f =
       record {
         walk =
-          subst (λ (k : ℕ). Walking first step count k (n + step) (i + 1)) (sym b)
-          (walk-next first step count (length marks) n i (t .walk) more);
+            subst (λ (k : ℕ). Walking first step count k (n + step) (i + 1)) (sym b)
+            (walk-next first step count (length marks) n i (t .walk) more);
         room = a ∙ t .room ∙ ap (λ (k : ℕ). k * 70) (sym b);
         same-out = a ∙ t .same-out;
         same-marks = b ∙ t .same-marks;
         store = λ s h.
-          let p = t .store s h in
-          (set (p .0) n (tried-cell (p .0)),
-          f (p .0) (p .1),
-          p .2 ∙ ap (tryLines (readLine lineLayer) ps (p .0)) (left-some first step count (length marks) n i (t .walk) more));
+            let p = t .store s h in (
+              set (p .0) n (tried-cell (p .0)),
+              f (p .0) (p .1),
+              p .2 ∙ ap (tryLines (readLine lineLayer) ps (p .0)) (left-some first step count (length marks) n i (t .walk) more),
+            );
       }
 
   unchanged : (v : State) → Holding out marks v → tried-cell v ≡ cellAt v n → Holding out marks (set v n (tried-cell v))

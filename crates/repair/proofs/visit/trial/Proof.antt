@@ -68,12 +68,13 @@ search-again c =
     let found = c .before .before .before .before .before .search .inv in
     let outer = c .before .before .before .before .before .before .before .before .before .before .before .loop .inv in
     let tries = c .before .before .before .before .before .before .before .before .before .before .before .before .before .before .before .args .tries in
-    let more = subst (λ (k : ℕ). c .before .before .before .before .before .search .j < k) (sym (tries-length (tries .count) (tries .at) (outer .0) (outer .1))) (c .before .before .before .before .search-test .taken) in
-    (found .0,
-    found .1,
-    found .2,
-    found .3,
-    searching-next _ _ _ _ (found .4) (found .2) more _ (sym (getD-take (tries .count) (tries .at) _ 0 (c .before .before .before .before .search-test .taken))) _ (c .before .before .before .flip-place .ensures) _ (c .before .before .read-line .ensures) (c .if2 .left))
+    let more = subst (λ (k : ℕ). c .before .before .before .before .before .search .j < k) (sym (tries-length (tries .count) (tries .at) (outer .0) (outer .1))) (c .before .before .before .before .search-test .taken) in (
+      found .0,
+      found .1,
+      found .2,
+      found .3,
+      searching-next _ _ _ _ (found .4) (found .2) more _ (sym (getD-take (tries .count) (tries .at) _ 0 (c .before .before .before .before .search-test .taken))) _ (c .before .before .before .flip-place .ensures) _ (c .before .before .read-line .ensures) (c .if2 .left),
+    )
 
 add-n : tie.Need-add-n Inv-search μ-search Inv-loop μ-loop
 add-n c = omega (arith, walk-small _ _ _ _ _ _ (c .before .before .before .loop .inv .2 .walk) (c .before .before .loop-test .taken))
@@ -89,28 +90,29 @@ loop-again c =
     let here = c .before .before .before .loop in
     let more = c .before .before .loop-test .taken in
     let tries = c .before .before .before .before .before .before .before .args .tries in
-    let full = tries-length (tries .count) (tries .at) (here .inv .0) (here .inv .1) in
-    (here .inv .0,
-    here .inv .1,
-    ⊎-elim
-    (λ w.
-    retry _ _ _ _ _ _ _ _ _ _ _ _ (w .5 ∙ w .3 .inv .0) (w .6 ∙ w .3 .inv .1)
-    (trying-failed _ _ _ _ _ _ _ _ _ _ (here .inv .2) more (w .0 .taken) (w .2 .result) (w .2 .ensures)
-    (searching-failed _ _ _ _ (w .3 .inv .4) (subst (λ (k : ℕ). k ≤ w .3 .j) (sym full) (w .4 .left)))))
-    (⊎-elim
-    (λ w.
-    let found = w .3 .inv in
-    let yet = subst (λ (k : ℕ). w .3 .j < k) (sym full) (w .4 .taken) in
-    let place = sym (getD-take (tries .count) (tries .at) (w .3 .j) 0 (w .4 .taken)) in
-    retry _ _ _ _ _ _ _ _ _ _ _ _ (w .14) (w .15 ∙ ap (λ (l : List ℕ). set l (here .n) 2) (found .1))
-    (trying-mended _ _ _ _ _ _ _ _ _ _ (here .inv .2) more (w .0 .taken) (w .2 .result) (w .2 .ensures) _ _ _
-    (tried-long _ _ _ _ (found .4) (found .2) yet _ place _ (w .5 .ensures) _ (w .6 .ensures))
-    (tried-line _ _ _ _ (found .4) (found .2) yet _ place _ (w .5 .ensures) _ (w .6 .ensures))
-    (w .11 .ensures ∙ ap (λ (l : List ℕ). putBytes l (here .n) (w .6 .result .line)) (found .0))
-    (w .11 .kept .0 ∙ ap length (found .0))
-    (searching-found _ _ _ _ (found .4) (found .2) yet _ place _ (w .5 .ensures) _ (w .6 .ensures) (w .8 .taken))))
-    (λ w. retry _ _ _ _ _ _ _ _ _ _ _ _ (w .1) (w .2) (trying-other _ _ _ _ _ _ _ _ _ _ (here .inv .2) more (w .0 .left))))
-    (c .if1 .came))
+    let full = tries-length (tries .count) (tries .at) (here .inv .0) (here .inv .1) in (
+      here .inv .0,
+      here .inv .1,
+      ⊎-elim
+          (λ w.
+          retry _ _ _ _ _ _ _ _ _ _ _ _ (w .5 ∙ w .3 .inv .0) (w .6 ∙ w .3 .inv .1)
+          (trying-failed _ _ _ _ _ _ _ _ _ _ (here .inv .2) more (w .0 .taken) (w .2 .result) (w .2 .ensures)
+          (searching-failed _ _ _ _ (w .3 .inv .4) (subst (λ (k : ℕ). k ≤ w .3 .j) (sym full) (w .4 .left)))))
+          (⊎-elim
+          (λ w.
+          let found = w .3 .inv in
+          let yet = subst (λ (k : ℕ). w .3 .j < k) (sym full) (w .4 .taken) in
+          let place = sym (getD-take (tries .count) (tries .at) (w .3 .j) 0 (w .4 .taken)) in
+          retry _ _ _ _ _ _ _ _ _ _ _ _ (w .14) (w .15 ∙ ap (λ (l : List ℕ). set l (here .n) 2) (found .1))
+          (trying-mended _ _ _ _ _ _ _ _ _ _ (here .inv .2) more (w .0 .taken) (w .2 .result) (w .2 .ensures) _ _ _
+          (tried-long _ _ _ _ (found .4) (found .2) yet _ place _ (w .5 .ensures) _ (w .6 .ensures))
+          (tried-line _ _ _ _ (found .4) (found .2) yet _ place _ (w .5 .ensures) _ (w .6 .ensures))
+          (w .11 .ensures ∙ ap (λ (l : List ℕ). putBytes l (here .n) (w .6 .result .line)) (found .0))
+          (w .11 .kept .0 ∙ ap length (found .0))
+          (searching-found _ _ _ _ (found .4) (found .2) yet _ place _ (w .5 .ensures) _ (w .6 .ensures) (w .8 .taken))))
+          (λ w. retry _ _ _ _ _ _ _ _ _ _ _ _ (w .1) (w .2) (trying-other _ _ _ _ _ _ _ _ _ _ (here .inv .2) more (w .0 .left))))
+          (c .if1 .came),
+    )
 
 same-length : tie.Need-same-length Inv-search μ-search Inv-loop μ-loop
 same-length c = c .before .loop .inv .2 .same-out

@@ -1,0 +1,64 @@
+-- The three entry points without their choice: what a call that is not refused gives, and what a refused one leaves.
+use mathlib.Core.Path.{_≡_, refl, _∙_}
+use mathlib.Core.Logic.{_⊎_, inl, inr}
+use mathlib.Core.List.{List}
+use Prim.Native.Nat.{ℕ, zero, suc, _/_, _%_}
+use native.Mathlib.Omega.{arith}
+use borrow.Author.Tests.{ne-eqb}
+use Rattle.scheme.specs.Repair.{answer}
+use Rattle.rectangle.specs.Store.{putLine, groups}
+use Rattle.rectangle.specs.Refusals.{tablesRefusal, changeRefusal, repairRefusal}
+use Rattle.rectangle.specs.Tables.{rowTableOf, columnTableOf, makeTables}
+use Rattle.rectangle.specs.Change.{newLine, difference, addTo, changeLine}
+use Rattle.rectangle.specs.Repair.{repaired, handedOver, repairStore}
+
+-- a refusal is 0 or not
+pub zero-or-not : (n : ℕ) → (n ≡ 0) ⊎ (n ≡ 0 → ⊥)
+zero-or-not zero = inl refl
+zero-or-not (suc n) = inr (λ e. omega arith)
+
+module _ (rows columns : ℕ) (lines rowTable columnTable : List ℕ) where
+  module _ (refusal : ℕ) (is : tablesRefusal rows columns lines rowTable columnTable ≡ refusal) where
+    pub tables-run : refusal ≡ 0
+        → makeTables rows columns lines rowTable columnTable
+        ≡ record { answer = 0; rowTable = rowTableOf rows columns lines; columnTable = columnTableOf rows columns lines }
+    unfolding makeTables
+    tables-run e = rw (is ∙ e)
+
+    pub tables-refused : (refusal ≡ 0 → ⊥)
+        → makeTables rows columns lines rowTable columnTable
+        ≡ record { answer = refusal; rowTable = rowTable; columnTable = columnTable }
+    unfolding makeTables
+    tables-refused d = rw (is, ne-eqb refusal 0 d)
+
+  module _ (n : ℕ) (payload : List ℕ) (refusal : ℕ)
+      (is : changeRefusal rows columns lines rowTable columnTable n payload ≡ refusal) where
+    pub change-runs : refusal ≡ 0
+        → changeLine rows columns lines rowTable columnTable n payload
+        ≡ record {
+          answer = 0;
+          lines = putLine lines n (newLine n payload);
+          rowTable = addTo rowTable (n / columns) (difference lines n payload);
+          columnTable = addTo columnTable (n % columns) (difference lines n payload);
+        }
+    unfolding changeLine
+    change-runs e = rw (is ∙ e)
+
+    pub change-refused : (refusal ≡ 0 → ⊥)
+        → changeLine rows columns lines rowTable columnTable n payload
+        ≡ record { answer = refusal; lines = lines; rowTable = rowTable; columnTable = columnTable }
+    unfolding changeLine
+    change-refused d = rw (is, ne-eqb refusal 0 d)
+
+  module _ (out marks : List ℕ) (refusal : ℕ) (is : repairRefusal rows columns lines rowTable columnTable out marks ≡ refusal) where
+    pub repair-runs : refusal ≡ 0
+        → repairStore rows columns lines rowTable columnTable out marks
+        ≡ handedOver (groups rows columns rowTable columnTable) (repaired rows columns lines rowTable columnTable)
+    unfolding repairStore
+    repair-runs e = rw (is ∙ e)
+
+    pub repair-refused : (refusal ≡ 0 → ⊥)
+        → repairStore rows columns lines rowTable columnTable out marks
+        ≡ record { answer = refusal; passes = 0; lines = out; marks = marks }
+    unfolding repairStore
+    repair-refused d = rw (is, ne-eqb refusal 0 d)
