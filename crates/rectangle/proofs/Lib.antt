@@ -15,6 +15,7 @@ pub mod Order
 pub mod Demand3
 pub mod FourLines
 pub mod Agreement
-pub mod Change
+pub mod Changing
 pub mod Loops
+pub mod Kept
 pub mod Example
