@@ -5,3 +5,4 @@ pub mod Places
 pub mod Held
 pub mod Settling
 pub mod Trying
+pub mod Mismatching

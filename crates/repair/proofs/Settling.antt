@@ -70,6 +70,15 @@ others p l r e =
     ∙ sym (xor-assoc (p ⊕ l) l r)
     ∙ ap (λ (x : Word). x ⊕ r) (xor-cancel p l (omega arith))
 
+-- buffers of the same lengths are lent as well
+pub still-lent : (out marks out′ marks′ : List ℕ) (first step count : ℕ) → Lent out marks first step count
+    → length out′ ≡ length out → length marks′ ≡ length marks → Lent out′ marks′ first step count
+still-lent out marks out′ marks′ first step count l e f =
+    record {
+      room = e ∙ l .room ∙ ap (λ (k : ℕ). k * 70) (sym f);
+      inside = subst (Inside first step count) (sym f) (l .inside);
+    }
+
 module _ (out marks : List ℕ) (first step count : ℕ) (lent : Lent out marks first step count) where
   pub lent-lines : Inside first step count (length out / 70)
   lent-lines = subst (Inside first step count) (sym (seventieth (length out) (length marks) (lent .room))) (lent .inside)

@@ -3,7 +3,7 @@ ghost use mathlib.Core.Path.{_≡_};
 ghost use Prim.Native.Nat.{_≤_};
 ghost use lib.ListN.{length, take};
 ghost use Rattle.scheme.specs.Layer.{readLine};
-ghost use Rattle.scheme.specs.Visit.{tryLines, settle};
+ghost use Rattle.scheme.specs.Visit.{tryLines, settle, trial as trial·, visit};
 ghost use Rattle.rectangle.specs.Store.{lineLayer, stride};
 ghost use Rattle.repair.specs.Lent.{Lent, Makes, groupAt};
 use crate::group;
@@ -71,4 +71,47 @@ pub fn settle_group(
         lines::put_line(out, n, rebuilt);
         marks[n] = 3;
     }
+}
+
+// Where two or more lines are faulty, the mismatch is worked out once; if it has 1 to 6 places, the faulty lines try them.
+pub fn try_group(
+    out: &mut [u8],
+    marks: &mut [u8],
+    parity: [u8; 70],
+    first: usize,
+    step: usize,
+    count: usize,
+)
+    requires { ⌜ Lent (now out) (now marks) first step count ⌝ }
+    ensures { λ _. ⌜ Makes (now (out .entry)) (now (marks .entry)) (now (out .exit)) (now (marks .exit)) (trial· (readLine lineLayer) (groupAt first step count parity)) ⌝ }
+{
+    let faulty = group::count_faulty(marks, first, step, count);
+    if faulty < 2 {
+        return;
+    }
+    let mismatch = place::xor_lines(group::sum_lines(out, first, step, count), parity);
+    let tries = group::set_places(mismatch);
+    if tries.count < 1 {
+        return;
+    }
+    if 6 < tries.count {
+        return;
+    }
+    trial(out, marks, first, step, count, tries);
+}
+
+// A visit: the trials, then the rebuilding.
+pub fn visit_group(
+    out: &mut [u8],
+    marks: &mut [u8],
+    parity: [u8; 70],
+    first: usize,
+    step: usize,
+    count: usize,
+)
+    requires { ⌜ Lent (now out) (now marks) first step count ⌝ }
+    ensures { λ _. ⌜ Makes (now (out .entry)) (now (marks .entry)) (now (out .exit)) (now (marks .exit)) (visit (readLine lineLayer) (groupAt first step count parity)) ⌝ }
+{
+    try_group(out, marks, parity, first, step, count);
+    settle_group(out, marks, parity, first, step, count);
 }
