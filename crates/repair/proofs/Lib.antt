@@ -6,3 +6,6 @@ pub mod Held
 pub mod Settling
 pub mod Trying
 pub mod Mismatching
+pub mod Visiting
+pub mod FirstReading
+pub mod Running

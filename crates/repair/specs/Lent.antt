@@ -5,9 +5,10 @@ use Prim.Native.Nat.{ℕ, _+_, _*_, _≤_, _<_}
 use lib.Dec.{eqb}
 use lib.ListN.{length, getD, take}
 use Rattle.linecode.specs.Places.{linePlaces, places}
+use Rattle.scheme.specs.Layer.{readLine}
 use Rattle.scheme.specs.Visit.{Group, State, lineAt, select}
-use Rattle.scheme.specs.Repair.{linesOf, marksOf}
-use Rattle.rectangle.specs.Store.{bufferOf, stride}
+use Rattle.scheme.specs.Repair.{Repaired, passesFrom, linesOf, marksOf}
+use Rattle.rectangle.specs.Store.{lineLayer, bufferOf, stride}
 
 -- a line buffer and a mark buffer hold the store s: its lines, spare bits 0, and their marks
 pub record Holding (out marks : List ℕ) (s : State) : Type 0 where
@@ -44,3 +45,17 @@ pub record Listed (all : List ℕ) (count : ℕ) (array : List ℕ) : Type 0 whe
   pub number : count ≡ length all
   pub room : length array ≡ 6
   pub listed : count ≤ 6 → take count array ≡ all
+
+-- a rectangle's sides, with a line buffer and a mark buffer for its lines
+pub record Rectangular (rows columns : ℕ) (out marks : List ℕ) : Type 0 where
+  pub rowsLow : 2 ≤ rows
+  pub rowsHigh : rows ≤ 512
+  pub columnsLow : 2 ≤ columns
+  pub columnsHigh : columns ≤ 512
+  pub outBytes : length out ≡ rows * columns * 70
+  pub markBytes : length marks ≡ rows * columns
+
+-- whatever store the buffers hold before, they hold what the passes make of it after, and n is the number of passes
+pub record RanPasses (gs : List Group) (out marks out′ marks′ : List ℕ) (n : ℕ) : Type 0 where
+  pub cells : Makes out marks out′ marks′ (λ s. passesFrom (readLine lineLayer) gs s .cells)
+  pub passes : (s : State) → Holding out marks s → n ≡ passesFrom (readLine lineLayer) gs s .passes
