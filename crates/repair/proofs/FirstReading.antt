@@ -110,27 +110,29 @@ reading-next found out₀ marks₀ count out marks n line after r p h e q a k =
       same-out = k ∙ p .same-out;
       same-marks = length-set marks n (r .mark) ∙ p .same-marks;
       lines =
-        a
-        ∙ ap₂ (λ (b : List ℕ) (x : List ℕ). putBytes b n x) (p .lines) (ap (λ (y : Reading). y .line) alone)
-        ∙ ap₂ (λ (i j : ℕ). putBytes (bufferOf ws ++ drop (j * i) out₀) j (lineOf (aloneAt found n .line))) (sym bytes-is) (sym size)
-        ∙ put-next ws out₀ (aloneAt found n .line)
-        ∙ ap₂ (λ (l : List Word) (i : ℕ). bufferOf l ++ drop i out₀)
-        (sym (map-snoc (λ c. c .line) (readFirst found n) (aloneAt found n)) ∙ ap linesOf (sym (one-more found n)))
-        (ap₂ (λ (i j : ℕ). suc i * j) size bytes-is)
-        ∙ ap (λ (i : ℕ). bufferOf (linesOf (readFirst found i)) ++ drop (i * 70) out₀) (sym (add-one n));
+          a
+          ∙ ap₂ (λ (b : List ℕ) (x : List ℕ). putBytes b n x) (p .lines) (ap (λ (y : Reading). y .line) alone)
+          ∙ ap₂ (λ (i j : ℕ). putBytes (bufferOf ws ++ drop (j * i) out₀) j (lineOf (aloneAt found n .line))) (sym bytes-is) (sym size)
+          ∙ put-next ws out₀ (aloneAt found n .line)
+          ∙ ap₂ (λ (l : List Word) (i : ℕ). bufferOf l ++ drop i out₀)
+          (sym (map-snoc (λ c. c .line) (readFirst found n) (aloneAt found n)) ∙ ap linesOf (sym (one-more found n)))
+          (ap₂ (λ (i j : ℕ). suc i * j) size bytes-is)
+          ∙ ap (λ (i : ℕ). bufferOf (linesOf (readFirst found i)) ++ drop (i * 70) out₀) (sym (add-one n));
       marked =
-        ap₂ (λ (l : List ℕ) (m : ℕ). set l n m) (p .marked) (ap (λ (y : Reading). y .mark) alone)
-        ∙ mark-next (marksOf (readFirst found n)) marks₀ n (aloneAt found n .mark)
-        (length-map (readFirst found n) (λ c. c .mark) ∙ length-readFirst found n) (omega (arith, p .markBytes))
-        ∙ ap (λ (l : List ℕ). l ++ drop (suc n) marks₀)
-        (sym (map-snoc (λ c. c .mark) (readFirst found n) (aloneAt found n)) ∙ ap marksOf (sym (one-more found n)))
-        ∙ ap (λ (i : ℕ). marksOf (readFirst found i) ++ drop i marks₀) (sym (add-one n));
+          ap₂ (λ (l : List ℕ) (m : ℕ). set l n m) (p .marked) (ap (λ (y : Reading). y .mark) alone)
+          ∙ mark-next (marksOf (readFirst found n)) marks₀ n (aloneAt found n .mark)
+          (length-map (readFirst found n) (λ c. c .mark) ∙ length-readFirst found n) (omega (arith, p .markBytes))
+          ∙ ap (λ (l : List ℕ). l ++ drop (suc n) marks₀)
+          (sym (map-snoc (λ c. c .mark) (readFirst found n) (aloneAt found n)) ∙ ap marksOf (sym (one-more found n)))
+          ∙ ap (λ (i : ℕ). marksOf (readFirst found i) ++ drop i marks₀) (sym (add-one n));
     }
   where
     ws : List Word
     ws = linesOf (readFirst found n)
+
     size : length ws ≡ n
     size = length-map (readFirst found n) (λ c. c .line) ∙ length-readFirst found n
+
     alone : r ≡ record { line = lineOf (aloneAt found n .line); mark = aloneAt found n .mark }
     alone = q ∙ ap (λ (l : List ℕ). record { line = lineOf (readAlone (places l) .word); mark = readAlone (places l) .mark }) e
 
@@ -140,18 +142,19 @@ reading-end found out₀ marks₀ count out marks n p h =
     record {
       wide = λ i j. wide-at linePlaces (readAll (readLine lineLayer) 0 (linesIn count found)) i wide j;
       lines =
-        p .lines
-        ∙ ap (λ (l : List ℕ). bufferOf (linesOf (readFirst found n)) ++ l) (drop-of-length-le out₀ {i = n * 70} (omega (arith, p .outBytes)))
-        ∙ append-nil (bufferOf (linesOf (readFirst found n)))
-        ∙ ap (λ (s : State). bufferOf (linesOf s)) (ap (readFirst found) last ∙ sym (all-read found count));
+          p .lines
+          ∙ ap (λ (l : List ℕ). bufferOf (linesOf (readFirst found n)) ++ l) (drop-of-length-le out₀ {i = n * 70} (omega (arith, p .outBytes)))
+          ∙ append-nil (bufferOf (linesOf (readFirst found n)))
+          ∙ ap (λ (s : State). bufferOf (linesOf s)) (ap (readFirst found) last ∙ sym (all-read found count));
       marked =
-        p .marked
-        ∙ ap (λ (l : List ℕ). marksOf (readFirst found n) ++ l) (drop-of-length-le marks₀ {i = n} (omega (arith, p .markBytes)))
-        ∙ append-nil (marksOf (readFirst found n))
-        ∙ ap marksOf (ap (readFirst found) last ∙ sym (all-read found count));
+          p .marked
+          ∙ ap (λ (l : List ℕ). marksOf (readFirst found n) ++ l) (drop-of-length-le marks₀ {i = n} (omega (arith, p .markBytes)))
+          ∙ append-nil (marksOf (readFirst found n))
+          ∙ ap marksOf (ap (readFirst found) last ∙ sym (all-read found count));
     }
   where
     last : n ≡ count
     last = omega (arith, p .few)
+
     wide : Wide linePlaces (readAll (readLine lineLayer) 0 (linesIn count found))
     wide = reading-wide kept count found (p .foundBytes ∙ ap (λ (i : ℕ). count * i) (sym bytes-is))

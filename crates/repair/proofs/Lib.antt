@@ -9,3 +9,4 @@ pub mod Mismatching
 pub mod Visiting
 pub mod FirstReading
 pub mod Running
+pub mod Checking

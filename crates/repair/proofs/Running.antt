@@ -28,8 +28,10 @@ count-from f (c ∷ s) i h =
   where
     zero' : (i : ℕ) → i ≡ i + 0
     zero' i = omega arith
+
     next : (i j : ℕ) → i + 1 + j ≡ i + suc j
     next i j = omega arith
+
     step : (a b : Bool) → a ≡ b → length (select f (stride (i + 1) 1 (length s))) ≡ faultyCount s
         → length (cond a (i ∷ select f (stride (i + 1) 1 (length s))) (select f (stride (i + 1) 1 (length s))))
         ≡ length (cond b (c ∷ select isFaulty s) (select isFaulty s))
@@ -69,9 +71,9 @@ running-start gs out marks k f held e q =
       same-out = refl;
       same-marks = refl;
       bound =
-        let c = count-all out marks (held .0) k (held .1) e in
-        let l = held-count out marks (held .0) (held .1) in
-        omega (arith, select-few (held .0));
+          let c = count-all out marks (held .0) k (held .1) e in
+          let l = held-count out marks (held .0) (held .1) in
+          omega (arith, select-few (held .0));
       store = λ s h. (s, h, q ∙ count-all out marks s k h e, refl, omega arith);
     }
 
@@ -92,12 +94,12 @@ module _ (gs : List Group) (out₀ marks₀ out marks : List ℕ) (passes faulty
   running-end z =
       record {
         cells = λ s h.
-          let p = r .store s h in
-          subst (Holding out marks) (sym (p .3 ∙ ap (λ (x : Repaired). x .cells) (none (p .0) (p .2)))) (p .1);
+            let p = r .store s h in
+            subst (Holding out marks) (sym (p .3 ∙ ap (λ (x : Repaired). x .cells) (none (p .0) (p .2)))) (p .1);
         passes = λ s h.
-          let p = r .store s h in
-          let q : passesFrom (readLine lineLayer) gs (p .0) .passes ≡ 0 = ap (λ (x : Repaired). x .passes) (none (p .0) (p .2)) in
-          omega (arith, p .4);
+            let p = r .store s h in
+            let q : passesFrom (readLine lineLayer) gs (p .0) .passes ≡ 0 = ap (λ (x : Repaired). x .passes) (none (p .0) (p .2)) in
+            omega (arith, p .4);
       }
     where
       none : (t : State) → faulty ≡ faultyCount t → passesFrom (readLine lineLayer) gs t ≡ record { cells = t; passes = 0 }
@@ -114,12 +116,12 @@ module _ (gs : List Group) (out₀ marks₀ out marks : List ℕ) (passes faulty
     running-idle e =
         record {
           cells = λ s h.
-            let p = r .store s h in
-            subst (Holding after afterMarks) (sym (p .3 ∙ ap (λ (x : Repaired). x .cells) (last (p .0) (p .1) (p .2)))) (made (p .0) (p .1));
+              let p = r .store s h in
+              subst (Holding after afterMarks) (sym (p .3 ∙ ap (λ (x : Repaired). x .cells) (last (p .0) (p .1) (p .2)))) (made (p .0) (p .1));
           passes = λ s h.
-            let p = r .store s h in
-            let q : passesFrom (readLine lineLayer) gs (p .0) .passes ≡ 1 = ap (λ (x : Repaired). x .passes) (last (p .0) (p .1) (p .2)) in
-            omega (arith, p .4);
+              let p = r .store s h in
+              let q : passesFrom (readLine lineLayer) gs (p .0) .passes ≡ 1 = ap (λ (x : Repaired). x .passes) (last (p .0) (p .1) (p .2)) in
+              omega (arith, p .4);
         }
       where
         last : (t : State) → Holding out marks t → faulty ≡ faultyCount t
@@ -142,14 +144,15 @@ module _ (gs : List Group) (out₀ marks₀ out marks : List ℕ) (passes faulty
           same-marks = same-marks ∙ r .same-marks;
           bound = omega (arith, running-less d held, r .bound);
           store = λ s h.
-            let p = r .store s h in
-            let t = pass (readLine lineLayer) gs (p .0) in
-            let m = more (p .0) (p .1) (p .2) in
-            (t,
-            made (p .0) (p .1),
-            left-count (p .0) (p .1),
-            p .3 ∙ ap (λ (x : Repaired). x .cells) m,
-            next (p .0) (passesFrom (readLine lineLayer) gs s .passes) (p .4) (ap (λ (x : Repaired). x .passes) m));
+              let p = r .store s h in
+              let t = pass (readLine lineLayer) gs (p .0) in
+              let m = more (p .0) (p .1) (p .2) in (
+                t,
+                made (p .0) (p .1),
+                left-count (p .0) (p .1),
+                p .3 ∙ ap (λ (x : Repaired). x .cells) m,
+                next (p .0) (passesFrom (readLine lineLayer) gs s .passes) (p .4) (ap (λ (x : Repaired). x .passes) m),
+              );
         }
       where
         more : (t : State) → Holding out marks t → faulty ≡ faultyCount t → passesFrom (readLine lineLayer) gs t
@@ -157,6 +160,7 @@ module _ (gs : List Group) (out₀ marks₀ out marks : List ℕ) (passes faulty
         more t h q =
             one-more-pass (readLine lineLayer) gs t (λ (z : faultyCount t ≡ 0). omega arith)
             (λ (z : faultyCount (pass (readLine lineLayer) gs t) ≡ faultyCount t). d (left-count t h ∙ z ∙ sym q))
+
         next : (t : State) (a : ℕ) → a ≡ passes + passesFrom (readLine lineLayer) gs t .passes
             → passesFrom (readLine lineLayer) gs t .passes ≡ suc (passesFrom (readLine lineLayer) gs (pass (readLine lineLayer) gs t) .passes)
             → a ≡ passes + 1 + passesFrom (readLine lineLayer) gs (pass (readLine lineLayer) gs t) .passes

@@ -33,14 +33,14 @@ module _ (rows columns : ℕ) (out marks : List ℕ) (rect : Rectangular rows co
       record {
         room = lines-room;
         inside =
-          record {
-            some = omega (arith, rect .columnsLow);
-            each = λ i k.
-              let within = inside-row rows columns r i h k in
-              omega (arith, rect .markBytes);
-            apart = omega arith;
-            small = omega (arith, mul-le-mul-right columns h, few-lines);
-          };
+            record {
+              some = omega (arith, rect .columnsLow);
+              each = λ i k.
+                  let within = inside-row rows columns r i h k in
+                  omega (arith, rect .markBytes);
+              apart = omega arith;
+              small = omega (arith, mul-le-mul-right columns h, few-lines);
+            };
       }
 
   pub column-lent : (c : ℕ) → c < columns → Lent out marks c columns rows
@@ -48,14 +48,14 @@ module _ (rows columns : ℕ) (out marks : List ℕ) (rect : Rectangular rows co
       record {
         room = lines-room;
         inside =
-          record {
-            some = omega (arith, rect .rowsLow);
-            each = λ i k.
-              let within = inside-column rows columns c i h k in
-              omega (arith, rect .markBytes);
-            apart = omega (arith, rect .columnsLow);
-            small = omega (arith, rect .columnsHigh, few-lines);
-          };
+            record {
+              some = omega (arith, rect .rowsLow);
+              each = λ i k.
+                  let within = inside-column rows columns c i h k in
+                  omega (arith, rect .markBytes);
+              apart = omega (arith, rect .columnsLow);
+              small = omega (arith, rect .columnsHigh, few-lines);
+            };
       }
 
   -- all lines as one group
@@ -64,12 +64,12 @@ module _ (rows columns : ℕ) (out marks : List ℕ) (rect : Rectangular rows co
       record {
         room = lines-room;
         inside =
-          record {
-            some = omega (arith, mul-le-mul-right columns (rect .rowsLow), rect .columnsLow);
-            each = λ i k. omega (arith, rect .markBytes);
-            apart = omega arith;
-            small = omega (arith, few-lines);
-          };
+            record {
+              some = omega (arith, mul-le-mul-right columns (rect .rowsLow), rect .columnsLow);
+              each = λ i k. omega (arith, rect .markBytes);
+              apart = omega arith;
+              small = omega (arith, few-lines);
+            };
       }
 
 -- buffers of the same lengths
@@ -126,13 +126,14 @@ passing-next G total out₀ marks₀ out marks r out′ marks′ g p h e f q v =
       same-out = e ∙ p .same-out;
       same-marks = f ∙ p .same-marks;
       store = λ s k.
-        let t = p .store s k in
-        (visit (readLine lineLayer) (G r) (t .0),
-        subst (λ (x : Group). Holding out′ marks′ (visit (readLine lineLayer) x (t .0))) q (v (t .0) (t .1)),
-        t .2
-        ∙ ap (λ (m : ℕ). pass (readLine lineLayer) (map G (upFrom r m)) (t .0)) one
-        ∙ ap (λ (m : ℕ). pass (readLine lineLayer) (map G (upFrom m (total - (r + 1)))) (visit (readLine lineLayer) (G r) (t .0)))
-        (sym (add-one r)));
+          let t = p .store s k in (
+            visit (readLine lineLayer) (G r) (t .0),
+            subst (λ (x : Group). Holding out′ marks′ (visit (readLine lineLayer) x (t .0))) q (v (t .0) (t .1)),
+            t .2
+                ∙ ap (λ (m : ℕ). pass (readLine lineLayer) (map G (upFrom r m)) (t .0)) one
+                ∙ ap (λ (m : ℕ). pass (readLine lineLayer) (map G (upFrom m (total - (r + 1)))) (visit (readLine lineLayer) (G r) (t .0)))
+                (sym (add-one r)),
+          );
     }
   where
     one : total - r ≡ suc (total - (r + 1))

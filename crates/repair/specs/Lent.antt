@@ -1,14 +1,16 @@
 -- What the functions of repair ask of lent buffers, and what they make of the store in them.
 use mathlib.Core.Path.{_≡_}
+use mathlib.Core.Bool.{Bool}
 use mathlib.Core.List.{List}
 use Prim.Native.Nat.{ℕ, _+_, _*_, _≤_, _<_}
 use lib.Dec.{eqb}
 use lib.ListN.{length, getD, take}
+use Rattle.gf2.specs.Word.{_⊕_, isZero}
 use Rattle.linecode.specs.Places.{linePlaces, places}
 use Rattle.scheme.specs.Layer.{readLine}
-use Rattle.scheme.specs.Visit.{Group, State, lineAt, select}
+use Rattle.scheme.specs.Visit.{Group, State, lineAt, select, sum}
 use Rattle.scheme.specs.Repair.{Repaired, passesFrom, linesOf, marksOf}
-use Rattle.rectangle.specs.Store.{lineLayer, bufferOf, stride}
+use Rattle.rectangle.specs.Store.{lineLayer, placesAt, bufferOf, stride, row, column}
 
 -- a line buffer and a mark buffer hold the store s: its lines, spare bits 0, and their marks
 pub record Holding (out marks : List ℕ) (s : State) : Type 0 where
@@ -59,3 +61,10 @@ pub record Rectangular (rows columns : ℕ) (out marks : List ℕ) : Type 0 wher
 pub record RanPasses (gs : List Group) (out marks out′ marks′ : List ℕ) (n : ℕ) : Type 0 where
   pub cells : Makes out marks out′ marks′ (λ s. passesFrom (readLine lineLayer) gs s .cells)
   pub passes : (s : State) → Holding out marks s → n ≡ passesFrom (readLine lineLayer) gs s .passes
+
+-- a row's and a column's lines, as they stand in a buffer, have the places of their parity line as their exclusive or
+unfoldable pub rowSumIs : ℕ → List ℕ → List ℕ → ℕ → Bool
+rowSumIs columns rowTable out r = isZero (sum (placesAt out) (row columns r) ⊕ placesAt rowTable r)
+
+unfoldable pub columnSumIs : ℕ → ℕ → List ℕ → List ℕ → ℕ → Bool
+columnSumIs rows columns columnTable out c = isZero (sum (placesAt out) (column rows columns c) ⊕ placesAt columnTable c)

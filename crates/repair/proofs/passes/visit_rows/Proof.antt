@@ -37,10 +37,11 @@ loop-less c = omega arith
 
 loop-again : tie.Need-loop-again Inv-loop μ-loop
 loop-again c =
-    let here = c .before .before .before .before .before .before .before .before .before .loop in
-    (omega (arith, here .inv .0),
-    passing-next _ _ _ _ _ _ (here .r) _ _ _ (here .inv .1) (c .before .before .before .before .before .before .before .before .loop-test .taken) (c .before .before .before .before .visit-group .kept .0) (c .before .before .before .before .visit-group .kept .1 .0)
-    (row-is _ (here .r) _ _ _ (here .inv .0) (c .before .before .before .before .before .before .before .row-parity .ensures)) (c .before .before .before .before .visit-group .ensures))
+    let here = c .before .before .before .before .before .before .before .before .before .loop in (
+      omega (arith, here .inv .0),
+      passing-next _ _ _ _ _ _ (here .r) _ _ _ (here .inv .1) (c .before .before .before .before .before .before .before .before .loop-test .taken) (c .before .before .before .before .visit-group .kept .0) (c .before .before .before .before .visit-group .kept .1 .0)
+          (row-is _ (here .r) _ _ _ (here .inv .0) (c .before .before .before .before .before .before .before .row-parity .ensures)) (c .before .before .before .before .visit-group .ensures),
+    )
 
 same-length : tie.Need-same-length Inv-loop μ-loop
 same-length c = c .before .loop .inv .1 .same-out

@@ -1,0 +1,61 @@
+-- `repair::parity::columns_correct` meets its contract.
+use borrow.Author.Needs.{needs}
+use native.Mathlib.Omega.{arith}
+use mathlib.Core.Path.{_≡_, sym, ap, _∙_}
+use mathlib.Core.List.{List}
+use Prim.Native.Nat.{ℕ, _-_}
+use native.Mathlib.Nat.{mul-le-mul-right}
+use borrow.Author.Tests.{not-true, not-false}
+use Rattle.linecode.specs.Places.{places}
+use Rattle.linecode.specs.Code.{isCorrect}
+use Rattle.rectangle.specs.Store.{placesAt}
+use Rattle.repair.proofs.Checking.{Checked, checked-start, checked-next, checked-failed, checked-end}
+use Rattle.repair.proofs.parity.columns_correct.Statement.{statement}
+use Rattle.repair.proofs.parity.columns_correct.Tie as tie
+
+abbrev Inv-loop : tie.InvT-loop
+Inv-loop columns column-table c₀ c = Checked (λ k. isCorrect (placesAt column-table k)) columns c
+
+abbrev μ-loop : tie.MeasureT-loop
+μ-loop columns column-table c₀ c = columns - c
+
+loop-holds : tie.Need-loop-holds Inv-loop μ-loop
+loop-holds c = checked-start _ _
+
+column-parity-requires : tie.Need-column-parity-requires Inv-loop μ-loop
+column-parity-requires c κs = omega (arith, c .before .before .before .pre, mul-le-mul-right 70 (c .loop-test .taken))
+
+is-correct-requires : tie.Need-is-correct-requires Inv-loop μ-loop
+is-correct-requires c κs = tt
+
+returns : tie.Need-returns Inv-loop μ-loop
+unfolding placesAt
+returns c = checked-failed _ _ _ (c .before .before .before .before .loop .inv) (c .before .before .before .loop-test .taken) (sym (c .before .is-correct .ensures ∙ ap (λ (l : List ℕ). isCorrect (places l)) (c .before .before .column-parity .ensures)) ∙ not-true _ (c .if1 .taken))
+
+add-c : tie.Need-add-c Inv-loop μ-loop
+add-c c = omega arith
+
+loop-less : tie.Need-loop-less Inv-loop μ-loop
+loop-less c = omega arith
+
+loop-again : tie.Need-loop-again Inv-loop μ-loop
+unfolding placesAt
+loop-again c = checked-next _ _ _ (c .before .before .before .before .loop .inv) (c .before .before .before .loop-test .taken) (sym (c .before .is-correct .ensures ∙ ap (λ (l : List ℕ). isCorrect (places l)) (c .before .before .column-parity .ensures)) ∙ not-false _ (c .if1 .left))
+
+returns-2 : tie.Need-returns-2 Inv-loop μ-loop
+returns-2 c = checked-end _ _ _ (c .before .loop .inv) (c .loop-test .left)
+
+pub columns-correct-spec : {M : Type 1} → statement M
+columns-correct-spec =
+    tie.close
+    (tie.spec
+    Inv-loop
+    μ-loop
+    loop-holds
+    column-parity-requires
+    is-correct-requires
+    returns
+    add-c
+    loop-less
+    loop-again
+    returns-2)
