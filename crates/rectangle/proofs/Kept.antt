@@ -10,7 +10,7 @@ use Rattle.scheme.specs.Layer.{ReadsAs, Promises}
 use Rattle.rectangle.specs.Store.{lineLayer, readUnder}
 use Rattle.rectangle.specs.Demands.{TablesAreOfTheCode, ExactReturn, NotAlike, EqualOrFourLines, ChangeEqualsTablesAnew}
 use Rattle.rectangle.proofs.Agreement as Agreement
-use Rattle.rectangle.proofs.Changing as Changing
+use Rattle.rectangle.proofs.Anew as Anew
 use Rattle.rectangle.proofs.Demand3 as Demand3
 use Rattle.rectangle.proofs.FourLines as FourLines
 
@@ -50,4 +50,4 @@ pub equalOrFourLines : EqualOrFourLines
 equalOrFourLines = FourLines.equalOrFourLines kept
 
 pub changeEqualsTablesAnew : ChangeEqualsTablesAnew
-changeEqualsTablesAnew = Changing.changeEqualsTablesAnew kept
+changeEqualsTablesAnew = Anew.changeEqualsTablesAnew kept

@@ -15,7 +15,7 @@ pub mod Order
 pub mod Demand3
 pub mod FourLines
 pub mod Agreement
-pub mod Changing
+pub mod Anew
 pub mod Loops
 pub mod Kept
 pub mod Example
