@@ -44,9 +44,9 @@ module _ (old line : List ℕ) (at : ℕ) (buffer : List ℕ) (i : ℕ) (p : Pas
         whole = p .whole;
         room = p .room;
         pasted =
-          ap (λ (b : List ℕ). set b (at + i) (getD line i 0)) (p .pasted)
-          ∙ paste-suc old at line i 0 (omega (arith, p .room)) (omega (arith, p .whole))
-          ∙ ap (paste old at line) (sym (add-one i));
+            ap (λ (b : List ℕ). set b (at + i) (getD line i 0)) (p .pasted)
+            ∙ paste-suc old at line i 0 (omega (arith, p .room)) (omega (arith, p .whole))
+            ∙ ap (paste old at line) (sym (add-one i));
       }
 
 pub pasting-end : (old line buffer : List ℕ) (n i : ℕ) → 70 ≤ i → Pasting old line (n * 70) buffer i → buffer ≡ putBytes old n line

@@ -5,6 +5,7 @@ pub mod Spare
 pub mod Buffer
 pub mod Copying
 pub mod Groups
+pub mod Area
 pub mod Tests
 pub mod Parity
 pub mod Written
