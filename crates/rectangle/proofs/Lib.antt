@@ -6,6 +6,8 @@ pub mod Buffer
 pub mod Copying
 pub mod Groups
 pub mod Area
+pub mod Alone
+pub mod Summing
 pub mod Tests
 pub mod Parity
 pub mod Written

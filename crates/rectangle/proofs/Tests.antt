@@ -41,6 +41,13 @@ every-below test k h = every-true test (upFrom 0 k) (λ n i. h n (omega (arith, 
 pub below-every : (test : ℕ → Bool) (k : ℕ) → every test (upFrom 0 k) ≡ true → (n : ℕ) → n < k → test n ≡ true
 below-every test k e n h = every-at test (upFrom 0 k) e n (rw zero-add at (in-upFrom 0 k n h))
 
+pub fails-below : (test : ℕ → Bool) (k n : ℕ) → n < k → test n ≡ false → every test (upFrom 0 k) ≡ false
+fails-below test k n h e = go (every test (upFrom 0 k)) refl
+  where
+    go : (b : Bool) → every test (upFrom 0 k) ≡ b → b ≡ false
+    go true p = sym (below-every test k p n h) ∙ e
+    go false p = refl
+
 -- ---- a refusal
 -- an answer 0 passed the test
 pub passed : (b : Bool) (refusal next : ℕ) → (refusal ≡ 0 → ⊥) → unless b refusal next ≡ 0 → (b ≡ true) × (next ≡ 0)

@@ -1,0 +1,48 @@
+// Making both parity tables from lines, each used as it reads alone. Document 01, "The rectangle".
+use crate::lines::ColumnIndex;
+use crate::lines::RowIndex;
+use crate::lines::alone_at;
+use crate::lines::put_column_parity;
+use crate::lines::put_row_parity;
+use linecode::place;
+ghost use mathlib.Core.Path.{_≡_};
+ghost use Prim.Native.Nat.{ℕ, suc, _+_, _*_, _≤_, _<_};
+ghost use lib.ListN.{length};
+ghost use Rattle.linecode.specs.Places.{lineOf};
+ghost use Rattle.linecode.specs.Code.{upFrom};
+ghost use Rattle.scheme.specs.Visit.{sum as sumOf};
+ghost use Rattle.rectangle.specs.Store.{aloneAt, stride};
+ghost use Rattle.rectangle.specs.Refusals.{every, acceptedAt};
+
+// Whether each of the first count lines reads alone as accepted.
+fn all_accepted(lines: &[u8], count: usize) -> bool
+    requires { ⌜ count * 70 ≤ length (now lines) ⌝ }
+    ensures { λ r. ⌜ r ≡ every (acceptedAt (now (lines .entry))) (upFrom 0 count) ⌝ }
+{
+    let mut n = 0;
+    while n < count {
+        let read = alone_at(lines, n);
+        if read.mark == 4 {
+            return false;
+        }
+        n += 1;
+    }
+    true
+}
+
+// The exclusive or of so many lines, from the first on at equal steps, each as it reads alone: rows and columns alike.
+fn group_parity(lines: &[u8], first: usize, step: usize, count: usize) -> [u8; 70]
+    requires { ⌜ ((k : ℕ) → k < count → suc (first + k * step) * 70 ≤ length (now lines)) ⌝ }
+    ensures { λ r. ⌜ r ≡ lineOf (sumOf (λ n. aloneAt (now (lines .entry)) n .line) (stride first step count)) ⌝ }
+{
+    let mut sum = [0u8; 70];
+    let mut k = 0;
+    while k < count {
+        let read = alone_at(lines, first + k * step);
+        let line = read.line;
+        let next = place::xor_lines(sum, line);
+        sum = next;
+        k += 1;
+    }
+    sum
+}
