@@ -8,6 +8,7 @@ pub mod Groups
 pub mod Area
 pub mod Alone
 pub mod Summing
+pub mod Filling
 pub mod Tests
 pub mod Parity
 pub mod Written

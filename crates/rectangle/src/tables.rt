@@ -13,6 +13,7 @@ ghost use Rattle.linecode.specs.Code.{upFrom};
 ghost use Rattle.scheme.specs.Visit.{sum as sumOf};
 ghost use Rattle.rectangle.specs.Store.{aloneAt, stride};
 ghost use Rattle.rectangle.specs.Refusals.{every, acceptedAt};
+ghost use Rattle.rectangle.specs.Tables.{rowTableOf, columnTableOf};
 
 // Whether each of the first count lines reads alone as accepted.
 fn all_accepted(lines: &[u8], count: usize) -> bool
@@ -45,4 +46,30 @@ fn group_parity(lines: &[u8], first: usize, step: usize, count: usize) -> [u8; 7
         k += 1;
     }
     sum
+}
+
+// The row table: for each row the exclusive or of its lines.
+fn fill_rows(rows: usize, columns: usize, lines: &[u8], row_table: &mut [u8])
+    requires { ⌜ (rows * columns * 70 ≤ length (now lines)) × (length (now «row_table») ≡ rows * 70) ⌝ }
+    ensures { λ _. ⌜ now («row_table» .exit) ≡ rowTableOf rows columns (now (lines .entry)) ⌝ }
+{
+    let mut r = 0;
+    while r < rows {
+        let parity = group_parity(lines, r * columns, 1, columns);
+        put_row_parity(row_table, RowIndex(r), parity);
+        r += 1;
+    }
+}
+
+// The column table: for each column the exclusive or of its lines.
+fn fill_columns(rows: usize, columns: usize, lines: &[u8], column_table: &mut [u8])
+    requires { ⌜ (rows * columns * 70 ≤ length (now lines)) × (length (now «column_table») ≡ columns * 70) ⌝ }
+    ensures { λ _. ⌜ now («column_table» .exit) ≡ columnTableOf rows columns (now (lines .entry)) ⌝ }
+{
+    let mut c = 0;
+    while c < columns {
+        let parity = group_parity(lines, c, columns, rows);
+        put_column_parity(column_table, ColumnIndex(c), parity);
+        c += 1;
+    }
 }
