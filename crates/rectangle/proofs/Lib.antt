@@ -10,6 +10,7 @@ pub mod Alone
 pub mod Summing
 pub mod Filling
 pub mod Tests
+pub mod Refusing
 pub mod Parity
 pub mod Written
 pub mod Order

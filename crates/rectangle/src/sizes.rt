@@ -29,7 +29,10 @@ pub fn refusal(
     row_table: usize,
     column_table: usize,
 ) -> u32
-    ensures { λ r. ⌜ r ≡ unless (sidesFit rows columns) 2 (unless (eqb lines (rows * columns * 70)) 5 (unless (eqb «row_table» (rows * 70) && eqb «column_table» (columns * 70)) 6 0)) ⌝ }
+    ensures { λ r. ⌜ r
+        ≡ unless (sidesFit rows columns) 2
+        (unless (eqb lines (rows * columns * 70)) 5
+        (unless (eqb «row_table» (rows * 70) && eqb «column_table» (columns * 70)) 6 0)) ⌝ }
 {
     if !sides_fit(rows, columns) {
         return 2;

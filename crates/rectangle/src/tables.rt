@@ -4,6 +4,7 @@ use crate::lines::RowIndex;
 use crate::lines::alone_at;
 use crate::lines::put_column_parity;
 use crate::lines::put_row_parity;
+use crate::sizes;
 use linecode::place;
 ghost use mathlib.Core.Path.{_≡_};
 ghost use Prim.Native.Nat.{ℕ, suc, _+_, _*_, _≤_, _<_};
@@ -13,7 +14,7 @@ ghost use Rattle.linecode.specs.Code.{upFrom};
 ghost use Rattle.scheme.specs.Visit.{sum as sumOf};
 ghost use Rattle.rectangle.specs.Store.{aloneAt, stride};
 ghost use Rattle.rectangle.specs.Refusals.{every, acceptedAt};
-ghost use Rattle.rectangle.specs.Tables.{rowTableOf, columnTableOf};
+ghost use Rattle.rectangle.specs.Tables.{rowTableOf, columnTableOf, TablesMade, makeTables};
 
 // Whether each of the first count lines reads alone as accepted.
 fn all_accepted(lines: &[u8], count: usize) -> bool
@@ -72,4 +73,34 @@ fn fill_columns(rows: usize, columns: usize, lines: &[u8], column_table: &mut [u
         put_column_parity(column_table, ColumnIndex(c), parity);
         c += 1;
     }
+}
+
+// Both tables made from the lines: 0, or the first refusal that fits, which writes nothing.
+pub fn make_tables(
+    rows: usize,
+    columns: usize,
+    lines: &[u8],
+    row_table: &mut [u8],
+    column_table: &mut [u8],
+) -> u32
+    ensures { λ r. ⌜ _≡_ {A = TablesMade}
+        (record { answer = r; rowTable = now («row_table» .exit); columnTable = now («column_table» .exit) })
+        (makeTables rows columns (now (lines .entry)) (now («row_table» .entry)) (now («column_table» .entry))) ⌝ }
+{
+    let refused = sizes::refusal(
+        rows,
+        columns,
+        lines.len(),
+        row_table.len(),
+        column_table.len(),
+    );
+    if refused != 0 {
+        return refused;
+    }
+    if !all_accepted(lines, rows * columns) {
+        return 10;
+    }
+    fill_rows(rows, columns, lines, row_table);
+    fill_columns(rows, columns, lines, column_table);
+    0
 }

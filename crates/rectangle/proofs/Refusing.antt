@@ -1,0 +1,94 @@
+-- What the entry points refuse: the tests of the sizes, which they share, and then each one's own.
+use mathlib.Core.Path.{_≡_, refl, sym, ap, ap₂, _∙_}
+use mathlib.Core.Bool.{Bool, true, false, _&&_, and-eq-true-iff}
+use mathlib.Core.List.{List}
+use Prim.Native.Nat.{ℕ, _*_}
+use native.Mathlib.Omega.{arith}
+use borrow.Author.Tests.{eqb-true, eq-eqb, ne-eqb}
+use lib.Dec.{eqb}
+use lib.ListN.{length}
+use Rattle.linecode.specs.Places.{lineBytes}
+use Rattle.linecode.specs.Code.{upFrom}
+use Rattle.rectangle.specs.Refusals.{unless, every, sidesFit, holds, tablesFit, acceptedAt, tablesRefusal}
+use Rattle.rectangle.specs.Tables.{rowTableOf, columnTableOf, TablesMade, makeTables}
+use Rattle.rectangle.proofs.Tests.{passed}
+
+-- a refusal that the first three tests give stands, whatever is tested next
+refused : (a b c : Bool) (r next : ℕ) → r ≡ unless a 2 (unless b 5 (unless c 6 0)) → (r ≡ 0 → ⊥)
+    → unless a 2 (unless b 5 (unless c 6 next)) ≡ r
+refused true true true r next e d = absurd (d e)
+refused true true false r next e d = sym e
+refused true false c r next e d = sym e
+refused false b c r next e d = sym e
+
+module _ (rows columns : ℕ) (lines rowTable columnTable : List ℕ) where
+  -- the tests of the sizes, as the code makes them on the lengths
+  abbrev pub sizeTests : ℕ
+  sizeTests =
+      unless (sidesFit rows columns) 2
+      (unless (eqb (length lines) (rows * columns * 70)) 5
+      (unless (eqb (length rowTable) (rows * 70) && eqb (length columnTable) (columns * 70)) 6 0))
+
+  -- and as the definitions have them, with what is tested next
+  abbrev pub sizesThen : ℕ → ℕ
+  sizesThen next =
+      unless (sidesFit rows columns) 2
+      (unless (holds (rows * columns) lines) 5
+      (unless (tablesFit rows columns rowTable columnTable) 6 next))
+
+  pub sizes-refused : (r next : ℕ) → r ≡ sizeTests → (r ≡ 0 → ⊥) → sizesThen next ≡ r
+  unfolding holds tablesFit lineBytes
+  sizes-refused r next e d =
+      refused (sidesFit rows columns) (eqb (length lines) (rows * columns * 70))
+      (eqb (length rowTable) (rows * 70) && eqb (length columnTable) (columns * 70)) r next e d
+
+  pub record SizesPass : Type 0 where
+    pub sides : sidesFit rows columns ≡ true
+    pub lineBytes : length lines ≡ rows * columns * 70
+    pub rowBytes : length rowTable ≡ rows * 70
+    pub columnBytes : length columnTable ≡ columns * 70
+
+  pub sizes-passed : (r : ℕ) → r ≡ sizeTests → r ≡ 0 → SizesPass
+  sizes-passed r e z =
+      let two = passed (sidesFit rows columns) 2 _ (λ y. omega arith) (sym e ∙ z) in
+      let five = passed (eqb (length lines) (rows * columns * 70)) 5 _ (λ y. omega arith) (two .1) in
+      let six = passed (eqb (length rowTable) (rows * 70) && eqb (length columnTable) (columns * 70)) 6 _ (λ y. omega arith) (five .1) in
+      let both = and-eq-true-iff (eqb (length rowTable) (rows * 70)) (eqb (length columnTable) (columns * 70)) .0 (six .0) in
+      record {
+        sides = two .0;
+        lineBytes = eqb-true _ _ (five .0);
+        rowBytes = eqb-true _ _ (both .0);
+        columnBytes = eqb-true _ _ (both .1);
+      }
+
+  pub sizes-next : SizesPass → (next : ℕ) → sizesThen next ≡ next
+  unfolding holds tablesFit lineBytes
+  sizes-next p next = rw (p .sides, eq-eqb _ _ (p .lineBytes), eq-eqb _ _ (p .rowBytes), eq-eqb _ _ (p .columnBytes))
+
+  -- ---- making tables
+  -- a refusal writes nothing
+  pub tables-refused : (r : ℕ) → tablesRefusal rows columns lines rowTable columnTable ≡ r → (r ≡ 0 → ⊥)
+      → _≡_ {A = TablesMade} (record { answer = r; rowTable = rowTable; columnTable = columnTable })
+      (makeTables rows columns lines rowTable columnTable)
+  unfolding makeTables
+  tables-refused r e d = rw (e, ne-eqb r 0 d)
+
+  pub tables-sizes : (r : ℕ) → r ≡ sizeTests → (r ≡ 0 → ⊥) → tablesRefusal rows columns lines rowTable columnTable ≡ r
+  unfolding tablesRefusal
+  tables-sizes r e d = sizes-refused r _ e d
+
+  -- a faulty line
+  pub tables-faulty : SizesPass → every (acceptedAt lines) (upFrom 0 (rows * columns)) ≡ false
+      → tablesRefusal rows columns lines rowTable columnTable ≡ 10
+  unfolding tablesRefusal
+  tables-faulty p e = sizes-next p _ ∙ ap (λ (b : Bool). unless b 10 0) e
+
+  -- nothing refused: both tables as they are made
+  pub tables-made : (newRows newColumns : List ℕ) → SizesPass → every (acceptedAt lines) (upFrom 0 (rows * columns)) ≡ true
+      → newRows ≡ rowTableOf rows columns lines → newColumns ≡ columnTableOf rows columns lines
+      → _≡_ {A = TablesMade} (record { answer = 0; rowTable = newRows; columnTable = newColumns })
+      (makeTables rows columns lines rowTable columnTable)
+  unfolding makeTables tablesRefusal
+  tables-made newRows newColumns p e f g =
+      ap₂ (λ (a b : List ℕ). record { answer = 0; rowTable = a; columnTable = b }) f g
+      ∙ rw (sizes-next p _ ∙ ap (λ (b : Bool). unless b 10 0) e)
