@@ -11,6 +11,7 @@ pub mod Summing
 pub mod Filling
 pub mod Tests
 pub mod Refusing
+pub mod Changing
 pub mod Parity
 pub mod Written
 pub mod Order
