@@ -5,7 +5,7 @@ use Prim.Native.Nat.{ℕ, suc, _*_, _≤_}
 use lib.ListN.{length}
 use Rattle.gf2.specs.Word.{Word, _⊕_}
 use Rattle.gf2.proofs.Xor.{length-xor-same}
-use Rattle.linecode.specs.Places.{linePlaces, dataPlaces, bitsOf, places, lineOf, loaded}
+use Rattle.linecode.specs.Places.{linePlaces, bitsOf, places, lineOf, loaded}
 use Rattle.linecode.specs.Code.{dataOf, codeword}
 use Rattle.linecode.proofs.Bytes.{length-bitsOf}
 use Rattle.linecode.proofs.Line.{data-is}

@@ -13,9 +13,9 @@ use linecode::place;
 ghost use mathlib.Core.Path.{_≡_};
 ghost use Prim.Native.Nat.{suc, _*_, _≤_};
 ghost use lib.ListN.{length};
-ghost use Rattle.linecode.specs.Places.{places, lineOf};
+ghost use Rattle.linecode.specs.Places.{places};
 ghost use Rattle.rectangle.specs.Refusals.{changeRefusal};
-ghost use Rattle.rectangle.specs.Change.{newLine, difference, addTo, LineChanged, changeLine};
+ghost use Rattle.rectangle.specs.Change.{addTo, LineChanged, changeLine};
 
 // The first refusal that fits, or 0: of the tables only the line's own two parity lines are tested for 9, and for 10 the line alone.
 fn refusal(

@@ -3,9 +3,8 @@
 use linecode::alone;
 use linecode::alone::Reading;
 ghost use mathlib.Core.Path.{_≡_};
-ghost use mathlib.Core.List.{_++_};
 ghost use Prim.Native.Nat.{suc, _*_, _≤_};
-ghost use lib.ListN.{length, take, drop};
+ghost use lib.ListN.{length};
 ghost use Rattle.linecode.specs.Entry.{reading};
 ghost use Rattle.rectangle.specs.Store.{bytesAt, putBytes};
 

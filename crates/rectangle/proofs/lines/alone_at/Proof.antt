@@ -1,6 +1,6 @@
 -- `rectangle::lines::alone_at` meets its contract.
 use borrow.Author.Needs.{needs}
-use mathlib.Core.Path.{_≡_, ap, _∙_}
+use mathlib.Core.Path.{ap, _∙_}
 use Rattle.linecode.specs.Entry.{reading}
 use Rattle.rectangle.proofs.lines.alone_at.Statement.{statement}
 use Rattle.rectangle.proofs.lines.alone_at.Tie as tie

@@ -1,5 +1,4 @@
 -- `rectangle::sizes::sides_fit` meets its contract: each way out is one of the four bounds.
-use mathlib.Core.Path.{_≡_, refl}
 use borrow.Author.Tests.{le-leb, lt-leb}
 use Rattle.rectangle.specs.Refusals.{sideFits, sidesFit}
 use Rattle.rectangle.proofs.sizes.sides_fit.Statement.{statement}

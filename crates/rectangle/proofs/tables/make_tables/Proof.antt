@@ -1,5 +1,5 @@
 -- `rectangle::tables::make_tables` meets its contract: each way out is one of the refusals, or both tables made.
-use mathlib.Core.Path.{_≡_, sym, _∙_}
+use mathlib.Core.Path.{sym, _∙_}
 use native.Mathlib.Omega.{arith}
 use borrow.Author.Needs.{needs}
 use borrow.Author.Tests.{not-true, not-false}
