@@ -1,12 +1,13 @@
 -- A line changed together with its two parity lines, in bytes.
 use mathlib.Core.Path.{_≡_, sym, ap, ap₂, _∙_}
+use mathlib.Core.Bool.{Bool}
 use mathlib.Core.List.{List}
 use Prim.Native.Nat.{ℕ, suc, _*_, _≤_}
 use lib.ListN.{length}
 use Rattle.gf2.specs.Word.{Word, _⊕_}
 use Rattle.gf2.proofs.Xor.{length-xor-same}
 use Rattle.linecode.specs.Places.{linePlaces, bitsOf, places, lineOf, loaded}
-use Rattle.linecode.specs.Code.{dataOf, codeword}
+use Rattle.linecode.specs.Code.{dataOf, codeword, isCorrect}
 use Rattle.linecode.proofs.Bytes.{length-bitsOf}
 use Rattle.linecode.proofs.Line.{data-is}
 use Rattle.linecode.proofs.Loading.{data-loaded}
@@ -15,6 +16,12 @@ use Rattle.rectangle.specs.Store.{writeUnder, bytesAt, placesAt, putByte
 use Rattle.rectangle.specs.Change.{newLine, difference, addTo}
 use Rattle.rectangle.proofs.Spare.{places-lineOf}
 use Rattle.rectangle.proofs.Alone.{length-alone}
+
+-- a parity line's test, made on its bytes
+pub correct-at : (table : List ℕ) (k : ℕ) (parity : List ℕ) (b : Bool) → parity ≡ bytesAt table k → b ≡ isCorrect (places parity)
+    → isCorrect (placesAt table k) ≡ b
+unfolding placesAt
+correct-at table k parity b e f = sym (f ∙ ap (λ (l : List ℕ). isCorrect (places l)) e)
 
 -- a line put into a parity line by exclusive or
 pub added : (table : List ℕ) (k : ℕ) (parity line sum new : List ℕ) → parity ≡ bytesAt table k

@@ -11,11 +11,29 @@ use crate::sizes;
 use linecode::alone;
 use linecode::place;
 ghost use mathlib.Core.Path.{_≡_};
+ghost use mathlib.Core.Bool.{_&&_};
 ghost use Prim.Native.Nat.{suc, _*_, _≤_};
 ghost use lib.ListN.{length};
 ghost use Rattle.linecode.specs.Places.{places};
+ghost use Rattle.linecode.specs.Code.{isCorrect};
+ghost use Rattle.rectangle.specs.Store.{placesAt};
 ghost use Rattle.rectangle.specs.Refusals.{changeRefusal};
 ghost use Rattle.rectangle.specs.Change.{addTo, LineChanged, changeLine};
+
+// Whether the parity lines of a row and of a column are correct lines, spare bits apart.
+fn parities_correct(
+    row_table: &[u8],
+    row: RowIndex,
+    column_table: &[u8],
+    column: ColumnIndex,
+) -> bool
+    requires { ⌜ (suc (row .0) * 70 ≤ length (now «row_table»)) × (suc (column .0) * 70 ≤ length (now «column_table»)) ⌝ }
+    ensures { λ r. ⌜ r ≡ isCorrect (placesAt (now («row_table» .entry)) (row .0)) && isCorrect (placesAt (now («column_table» .entry)) (column .0)) ⌝ }
+{
+    let of_row = alone::is_correct(row_parity(row_table, row));
+    let of_column = alone::is_correct(column_parity(column_table, column));
+    of_row && of_column
+}
 
 // The first refusal that fits, or 0: of the tables only the line's own two parity lines are tested for 9, and for 10 the line alone.
 fn refusal(
@@ -47,15 +65,14 @@ fn refusal(
         return 8;
     }
     let r = n / columns;
-    if !alone::is_correct(row_parity(row_table, RowIndex(r))) {
-        return 9;
-    }
     let c = n % columns;
-    if !alone::is_correct(column_parity(column_table, ColumnIndex(c))) {
+    let correct = parities_correct(row_table, RowIndex(r), column_table, ColumnIndex(c));
+    let read = alone_at(lines, n);
+    let mark = read.mark;
+    if !correct {
         return 9;
     }
-    let old = alone_at(lines, n);
-    if old.mark == 4 {
+    if mark == 4 {
         return 10;
     }
     0

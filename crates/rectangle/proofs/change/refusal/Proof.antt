@@ -1,13 +1,8 @@
 -- `rectangle::change::refusal` meets its contract: each way out is one of the tests.
-use mathlib.Core.Path.{_≡_, sym, ap, _∙_}
-use mathlib.Core.List.{List}
+use mathlib.Core.Path.{_≡_, sym, _∙_}
 use native.Mathlib.Omega.{arith}
-use Prim.Native.Nat.{ℕ, _/_, _%_}
 use borrow.Author.Needs.{needs}
 use borrow.Author.Tests.{eq-eqb, ne-eqb, lt-ltb, le-ltb, not-true, not-false}
-use Rattle.linecode.specs.Places.{places}
-use Rattle.linecode.specs.Code.{isCorrect}
-use Rattle.rectangle.specs.Store.{placesAt}
 use Rattle.rectangle.specs.Refusals.{changeRefusal}
 use Rattle.rectangle.proofs.Area.{area}
 use Rattle.rectangle.proofs.Alone.{faulty-alone, accepted-alone}
@@ -50,54 +45,31 @@ returns-3 c = rw (← next (c .before .before), eq-eqb _ 64 (c .before .if2 .lef
 div-r : tie.Need-div-r
 div-r c = some-columns _ _ _ _ _ (fit (c .before .before)) _ (c .if3 .left)
 
-row-parity-requires : tie.Need-row-parity-requires
-row-parity-requires c κs = row-room _ _ _ _ _ (fit (c .before .before)) _ (c .if3 .left)
+rem-c : tie.Need-rem-c
+rem-c c = some-columns _ _ _ _ _ (fit (c .before .before)) _ (c .if3 .left)
 
-is-correct-requires : tie.Need-is-correct-requires
-is-correct-requires c κs = search needs
+parities-correct-requires : tie.Need-parities-correct-requires
+parities-correct-requires c κs =
+    (row-room _ _ _ _ _ (fit (c .before .before)) _ (c .if3 .left), column-room _ _ _ _ _ (fit (c .before .before)) _ (c .if3 .left))
 
--- the tests of the two parity lines, as the definition has them
-row-tested : (c : tie.After-is-correct)
-    → let a = c .before .before .before .before .before .before .before .before .before .before .args in isCorrect (placesAt (a .row-table .now) (a .n / a .columns)) ≡ c .is-correct .result
-unfolding placesAt
-row-tested c = sym (c .is-correct .ensures ∙ ap (λ (l : List ℕ). isCorrect (places l)) (c .before .row-parity .ensures))
-
-column-tested : (c : tie.After-is-correct2)
-    → let a = c .before .before .before .before .before .before .before .before .before .before .before .before .before .args in isCorrect (placesAt (a .column-table .now) (a .n % a .columns)) ≡ c .is-correct2 .result
-unfolding placesAt
-column-tested c = sym (c .is-correct2 .ensures ∙ ap (λ (l : List ℕ). isCorrect (places l)) (c .before .column-parity .ensures))
+alone-at-requires : tie.Need-alone-at-requires
+alone-at-requires c κs = line-room _ _ _ _ _ (fit (c .before .before .before)) _ (c .before .if3 .left)
 
 returns-4 : tie.Need-returns-4
 returns-4 c =
-    rw (← next (c .before .before .before .before .before), eq-eqb _ 64 (c .before .before .before .before .if2 .left), lt-ltb _ _ (c .before .before .before .if3 .left), row-tested (c .before) ∙ not-true _ (c .if4 .taken))
-
-rem-c : tie.Need-rem-c
-rem-c c = some-columns _ _ _ _ _ (fit (c .before .before .before .before .before)) _ (c .before .before .before .if3 .left)
-
-column-parity-requires : tie.Need-column-parity-requires
-column-parity-requires c κs = column-room _ _ _ _ _ (fit (c .before .before .before .before .before)) _ (c .before .before .before .if3 .left)
-
-is-correct-requires-2 : tie.Need-is-correct-requires-2
-is-correct-requires-2 c κs = search needs
+    rw (← next (c .before .before .before .before .before), eq-eqb _ 64 (c .before .before .before .before .if2 .left), lt-ltb _ _ (c .before .before .before .if3 .left), sym (c .before .before .parities-correct .ensures) ∙ not-true _ (c .if4 .taken))
 
 returns-5 : tie.Need-returns-5
 returns-5 c =
-    rw (← next (c .before .before .before .before .before .before .before .before), eq-eqb _ 64 (c .before .before .before .before .before .before .before .if2 .left), lt-ltb _ _ (c .before .before .before .before .before .before .if3 .left), row-tested (c .before .before .before .before) ∙ not-false _ (c .before .before .before .if4 .left), column-tested (c .before) ∙ not-true _ (c .if5 .taken))
-
-alone-at-requires : tie.Need-alone-at-requires
-alone-at-requires c κs = line-room _ _ _ _ _ (fit (c .before .before .before .before .before .before .before .before)) _ (c .before .before .before .before .before .before .if3 .left)
+    let a = c .before .before .before .before .before .before .before .before .before .before .before .before .args in
+    let read = c .before .before .alone-at in
+    rw (← next (c .before .before .before .before .before .before), eq-eqb _ 64 (c .before .before .before .before .before .if2 .left), lt-ltb _ _ (c .before .before .before .before .if3 .left), sym (c .before .before .before .parities-correct .ensures) ∙ not-false _ (c .before .if4 .left), faulty-alone (a .lines .now) (a .n) (read .result) (read .ensures) (c .if5 .taken))
 
 returns-6 : tie.Need-returns-6
 returns-6 c =
-    let a = c .before .before .before .before .before .before .before .before .before .before .before .before .before .before .before .before .before .args in
+    let a = c .before .before .before .before .before .before .before .before .before .before .before .before .args in
     let read = c .before .before .alone-at in
-    rw (← next (c .before .before .before .before .before .before .before .before .before .before .before), eq-eqb _ 64 (c .before .before .before .before .before .before .before .before .before .before .if2 .left), lt-ltb _ _ (c .before .before .before .before .before .before .before .before .before .if3 .left), row-tested (c .before .before .before .before .before .before .before) ∙ not-false _ (c .before .before .before .before .before .before .if4 .left), column-tested (c .before .before .before .before) ∙ not-false _ (c .before .before .before .if5 .left), faulty-alone (a .lines .now) (a .n) (read .result) (read .ensures) (c .if6 .taken))
-
-returns-7 : tie.Need-returns-7
-returns-7 c =
-    let a = c .before .before .before .before .before .before .before .before .before .before .before .before .before .before .before .before .before .args in
-    let read = c .before .before .alone-at in
-    rw (← next (c .before .before .before .before .before .before .before .before .before .before .before), eq-eqb _ 64 (c .before .before .before .before .before .before .before .before .before .before .if2 .left), lt-ltb _ _ (c .before .before .before .before .before .before .before .before .before .if3 .left), row-tested (c .before .before .before .before .before .before .before) ∙ not-false _ (c .before .before .before .before .before .before .if4 .left), column-tested (c .before .before .before .before) ∙ not-false _ (c .before .before .before .if5 .left), accepted-alone (a .lines .now) (a .n) (read .result) (read .ensures) (c .if6 .left))
+    rw (← next (c .before .before .before .before .before .before), eq-eqb _ 64 (c .before .before .before .before .before .if2 .left), lt-ltb _ _ (c .before .before .before .before .if3 .left), sym (c .before .before .before .parities-correct .ensures) ∙ not-false _ (c .before .if4 .left), accepted-alone (a .lines .now) (a .n) (read .result) (read .ensures) (c .if5 .left))
 
 pub refusal-spec : {M : Type 1} → statement M
 refusal-spec =
@@ -109,13 +81,9 @@ refusal-spec =
     mul-if3
     returns-3
     div-r
-    row-parity-requires
-    is-correct-requires
-    returns-4
     rem-c
-    column-parity-requires
-    is-correct-requires-2
-    returns-5
+    parities-correct-requires
     alone-at-requires
-    returns-6
-    returns-7)
+    returns-4
+    returns-5
+    returns-6)
