@@ -119,9 +119,9 @@ pub fn change_line(
         })
         (changeLine rows columns (now (lines .entry)) (now («row_table» .entry)) (now («column_table» .entry)) n (now (payload .entry))) ⌝ }
 {
-    let refused = refusal(rows, columns, lines, row_table, column_table, n, payload);
-    if refused != 0 {
-        return refused;
+    let answer = refusal(rows, columns, lines, row_table, column_table, n, payload);
+    if answer != 0 {
+        return answer;
     }
     let read = alone_at(lines, n);
     let old = read.line;
