@@ -1,13 +1,22 @@
--- Laws of the rectangle.
+-- Laws of the rectangle: lines in buffers, rows and columns.
 pub mod Members
 pub mod Stride
 pub mod Spare
 pub mod Buffer
 pub mod Copying
 pub mod Groups
+pub mod Area
+pub mod Alone
 pub mod Tests
+pub mod Loops
+-- The entry points: what is refused, and what is written.
 pub mod Runs
 pub mod Refused
+pub mod Refusing
+pub mod Summing
+pub mod Filling
+pub mod Changing
+-- The demands: read Kept last.
 pub mod Writing
 pub mod Parity
 pub mod Written
@@ -16,6 +25,5 @@ pub mod Demand3
 pub mod FourLines
 pub mod Agreement
 pub mod Anew
-pub mod Loops
 pub mod Kept
 pub mod Example

@@ -1,5 +1,5 @@
 -- Tests and refusals: what a test that passes tells, and that a call whose tests all pass is not refused.
-use mathlib.Core.Path.{_≡_, refl, ap, _∙_}
+use mathlib.Core.Path.{_≡_, sym, refl, ap, _∙_}
 use mathlib.Core.Logic.{inl, inr}
 use mathlib.Core.Bool.{Bool, true, false, not, _&&_, true≢false, and-eq-true-iff}
 use mathlib.Core.List.{List, [], _∷_}
@@ -40,6 +40,13 @@ every-below test k h = every-true test (upFrom 0 k) (λ n i. h n (omega (arith, 
 
 pub below-every : (test : ℕ → Bool) (k : ℕ) → every test (upFrom 0 k) ≡ true → (n : ℕ) → n < k → test n ≡ true
 below-every test k e n h = every-at test (upFrom 0 k) e n (rw zero-add at (in-upFrom 0 k n h))
+
+pub fails-below : (test : ℕ → Bool) (k n : ℕ) → n < k → test n ≡ false → every test (upFrom 0 k) ≡ false
+fails-below test k n h e = go (every test (upFrom 0 k)) refl
+  where
+    go : (b : Bool) → every test (upFrom 0 k) ≡ b → b ≡ false
+    go true p = sym (below-every test k p n h) ∙ e
+    go false p = refl
 
 -- ---- a refusal
 -- an answer 0 passed the test

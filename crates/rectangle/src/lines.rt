@@ -1,9 +1,11 @@
 // Lines in a lent buffer. The functions of this module are public because the crates above go through them alone; each asks that
 // the line lies inside the buffer, which the entry points have tested.
+use linecode::alone;
+use linecode::alone::Reading;
 ghost use mathlib.Core.Path.{_≡_};
-ghost use mathlib.Core.List.{_++_};
 ghost use Prim.Native.Nat.{suc, _*_, _≤_};
-ghost use lib.ListN.{length, take, drop};
+ghost use lib.ListN.{length};
+ghost use Rattle.linecode.specs.Entry.{reading};
 ghost use Rattle.rectangle.specs.Store.{bytesAt, putBytes};
 
 // The number of a row, and of a column: they are counted apart, so that neither table is reached with the other's number.
@@ -49,4 +51,30 @@ pub fn column_parity(column_table: &[u8], column: ColumnIndex) -> [u8; 70]
 {
     let c = column.0;
     line_at(column_table, c)
+}
+
+// Line n of a buffer as it reads alone.
+pub fn alone_at(buffer: &[u8], n: usize) -> Reading
+    requires { ⌜ suc n * 70 ≤ length (now buffer) ⌝ }
+    ensures { λ r. ⌜ r ≡ reading (bytesAt (now (buffer .entry)) n) ⌝ }
+{
+    alone::read_line(line_at(buffer, n))
+}
+
+// The parity line of a row, written.
+pub fn put_row_parity(row_table: &mut [u8], row: RowIndex, line: [u8; 70])
+    requires { ⌜ suc (row .0) * 70 ≤ length (now «row_table») ⌝ }
+    ensures { λ _. ⌜ now («row_table» .exit) ≡ putBytes (now («row_table» .entry)) (row .0) line ⌝ }
+{
+    let r = row.0;
+    put_line(row_table, r, line);
+}
+
+// The parity line of a column, written.
+pub fn put_column_parity(column_table: &mut [u8], column: ColumnIndex, line: [u8; 70])
+    requires { ⌜ suc (column .0) * 70 ≤ length (now «column_table») ⌝ }
+    ensures { λ _. ⌜ now («column_table» .exit) ≡ putBytes (now («column_table» .entry)) (column .0) line ⌝ }
+{
+    let c = column.0;
+    put_line(column_table, c, line);
 }

@@ -76,10 +76,13 @@ agreement out first step count inside parity e sums difference a b number array 
   where
     total : Word
     total = sum (placesAt out) (stride first step count)
+
     long : length total ≡ linePlaces
     long = group-long out first step count inside
+
     sums-are : places sums ≡ total
     sums-are = ap places a ∙ places-lineOf total long
+
     both : length (total ⊕ places parity) ≡ linePlaces
     both = length-xor-same total (places parity) (long ∙ sym (length-places parity e)) ∙ long
 

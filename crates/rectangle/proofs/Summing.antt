@@ -1,0 +1,71 @@
+-- Lines summed one after the other, from a line of zeros on.
+use mathlib.Core.Path.{_≡_, refl, sym, ap, ap₂, _∙_}
+use mathlib.Core.Logic.{_⊎_, inl, inr}
+use mathlib.Core.List.{List, []}
+use Prim.Native.Nat.{ℕ, zero, suc, _+_, _*_, _≤_, _<_}
+use native.Mathlib.Numerals.{add-one}
+use native.Mathlib.Omega.{arith}
+use lib.ListN.{length, replicate}
+use Rattle.gf2.specs.Word.{Word, _⊕_, zeros}
+use Rattle.gf2.proofs.Xor.{xor-comm, xor-zeros, length-xor-same}
+use Rattle.linecode.specs.Places.{protectedPlaces, hammingPlaces, linePlaces, lineBytes, places, lineOf}
+use Rattle.scheme.specs.Visit.{sum}
+use Rattle.rectangle.specs.Store.{aloneAt, stride}
+use Rattle.rectangle.proofs.Stride.{sum-snoc}
+use Rattle.rectangle.proofs.Spare.{places-lineOf}
+use Rattle.rectangle.proofs.Alone.{length-alone}
+
+-- no line so far, or all places
+Whole : Word → Type 0
+Whole w = (w ≡ []) ⊎ (length w ≡ linePlaces)
+
+-- a line of zeros
+pub none-summed : replicate 70 0 ≡ lineOf []
+unfolding lineOf lineBytes protectedPlaces
+none-summed = refl
+
+none-places : places (lineOf []) ≡ zeros linePlaces
+unfolding places lineOf lineBytes protectedPlaces hammingPlaces linePlaces
+none-places = refl
+
+-- one line more, in bytes
+one-more : (w v : Word) → Whole w → length v ≡ linePlaces → lineOf (places (lineOf w) ⊕ places (lineOf v)) ≡ lineOf (w ⊕ v)
+unfolding Whole
+one-more w v (inl e) f =
+    ap lineOf
+    (ap₂ _⊕_ (ap (λ (x : Word). places (lineOf x)) e ∙ none-places) (places-lineOf v f)
+    ∙ xor-comm (zeros linePlaces) v
+    ∙ xor-zeros linePlaces v (omega (arith, f))
+    ∙ ap (λ (x : Word). x ⊕ v) (sym e))
+one-more w v (inr e) f = ap lineOf (ap₂ _⊕_ (places-lineOf w e) (places-lineOf v f))
+
+whole-more : (w v : Word) → Whole w → length v ≡ linePlaces → Whole (w ⊕ v)
+unfolding Whole
+whole-more w v (inl e) f = inr (ap (λ (x : Word). length (x ⊕ v)) e ∙ f)
+whole-more w v (inr e) f = inr (length-xor-same w v (e ∙ sym f) ∙ e)
+
+-- ---- lines at equal steps, as each reads alone
+module _ (buffer : List ℕ) (first step : ℕ) where
+  -- the exclusive or of the first k of them
+  abbrev pub summed : ℕ → Word
+  summed k = sum (λ n. aloneAt buffer n .line) (stride first step k)
+
+  whole-summed : (k : ℕ) → ((j : ℕ) → j < k → suc (first + j * step) * 70 ≤ length buffer) → Whole (summed k)
+  unfolding Whole
+  whole-summed zero inside = inl refl
+  whole-summed (suc k) inside =
+      rw (sum-snoc (λ n. aloneAt buffer n .line) first step k)
+      (whole-more (summed k) (aloneAt buffer (first + k * step) .line) (whole-summed k (λ j h. inside j (omega arith)))
+      (length-alone buffer (first + k * step) (inside k (omega arith))))
+
+  -- a turn of the loop
+  pub sum-turn : (k : ℕ) (old line new : List ℕ) → ((j : ℕ) → j < suc k → suc (first + j * step) * 70 ≤ length buffer)
+      → old ≡ lineOf (summed k) → line ≡ lineOf (aloneAt buffer (first + k * step) .line) → new ≡ lineOf (places old ⊕ places line)
+      → new ≡ lineOf (summed (k + 1))
+  sum-turn k old line new inside e f g =
+      g
+      ∙ ap₂ (λ (a b : List ℕ). lineOf (places a ⊕ places b)) e f
+      ∙ one-more (summed k) (aloneAt buffer (first + k * step) .line) (whole-summed k (λ j h. inside j (omega arith)))
+      (length-alone buffer (first + k * step) (inside k (omega arith)))
+      ∙ ap lineOf (sym (sum-snoc (λ n. aloneAt buffer n .line) first step k))
+      ∙ ap (λ (j : ℕ). lineOf (summed j)) (sym (add-one k))

@@ -1,0 +1,30 @@
+-- `rectangle::change::add_to_column` meets its contract.
+use borrow.Author.Needs.{needs}
+use Rattle.rectangle.proofs.Changing.{added}
+use Rattle.rectangle.proofs.change.add_to_column.Statement.{statement}
+use Rattle.rectangle.proofs.change.add_to_column.Tie as tie
+
+column-parity-requires : tie.Need-column-parity-requires
+column-parity-requires c κs = search needs
+
+xor-lines-requires : tie.Need-xor-lines-requires
+xor-lines-requires c κs = search needs
+
+put-column-parity-requires : tie.Need-put-column-parity-requires
+put-column-parity-requires c κs = search needs
+
+same-length : tie.Need-same-length
+same-length c = search needs
+
+returns : tie.Need-returns
+returns c =
+    let a = c .before .before .before .before .before .before .before .before .args in
+    added (a .column-table .now) (a .column .0) (c .before .before .before .before .before .column-parity .result) (a .line) (c .before .before .before .before .xor-lines .result) _
+    (c .before .before .before .before .before .column-parity .ensures)
+    (c .before .before .before .before .xor-lines .ensures)
+    (c .before .before .put-column-parity .ensures)
+
+pub add-to-column-spec : {M : Type 1} → statement M
+add-to-column-spec =
+    tie.close
+    (tie.spec column-parity-requires xor-lines-requires put-column-parity-requires same-length returns)

@@ -1,0 +1,136 @@
+// Changing one line together with its two parity lines. Document 01, "The rectangle".
+use crate::lines::ColumnIndex;
+use crate::lines::RowIndex;
+use crate::lines::alone_at;
+use crate::lines::column_parity;
+use crate::lines::put_column_parity;
+use crate::lines::put_line;
+use crate::lines::put_row_parity;
+use crate::lines::row_parity;
+use crate::sizes;
+use linecode::alone;
+use linecode::place;
+ghost use mathlib.Core.Path.{_≡_};
+ghost use mathlib.Core.Bool.{_&&_};
+ghost use Prim.Native.Nat.{suc, _*_, _≤_};
+ghost use lib.ListN.{length};
+ghost use Rattle.linecode.specs.Places.{places};
+ghost use Rattle.linecode.specs.Code.{isCorrect};
+ghost use Rattle.rectangle.specs.Store.{placesAt};
+ghost use Rattle.rectangle.specs.Refusals.{changeRefusal};
+ghost use Rattle.rectangle.specs.Change.{addTo, LineChanged, changeLine};
+
+// Whether the parity lines of a row and of a column are correct lines, spare bits apart.
+fn parities_correct(
+    row_table: &[u8],
+    row: RowIndex,
+    column_table: &[u8],
+    column: ColumnIndex,
+) -> bool
+    requires { ⌜ (suc (row .0) * 70 ≤ length (now «row_table»)) × (suc (column .0) * 70 ≤ length (now «column_table»)) ⌝ }
+    ensures { λ r. ⌜ r ≡ isCorrect (placesAt (now («row_table» .entry)) (row .0)) && isCorrect (placesAt (now («column_table» .entry)) (column .0)) ⌝ }
+{
+    let of_row = alone::is_correct(row_parity(row_table, row));
+    let of_column = alone::is_correct(column_parity(column_table, column));
+    of_row && of_column
+}
+
+// The first refusal that fits, or 0: of the tables only the line's own two parity lines are tested for 9, and for 10 the line alone.
+fn refusal(
+    rows: usize,
+    columns: usize,
+    lines: &[u8],
+    row_table: &[u8],
+    column_table: &[u8],
+    n: usize,
+    payload: &[u8],
+) -> u32
+    ensures { λ r. ⌜ r
+        ≡ changeRefusal rows columns (now (lines .entry)) (now («row_table» .entry)) (now («column_table» .entry)) n (now (payload .entry)) ⌝ }
+{
+    let refused = sizes::refusal(
+        rows,
+        columns,
+        lines.len(),
+        row_table.len(),
+        column_table.len(),
+    );
+    if refused != 0 {
+        return refused;
+    }
+    if payload.len() != 64 {
+        return 7;
+    }
+    if rows * columns <= n {
+        return 8;
+    }
+    let r = n / columns;
+    let c = n % columns;
+    let correct = parities_correct(row_table, RowIndex(r), column_table, ColumnIndex(c));
+    let read = alone_at(lines, n);
+    let mark = read.mark;
+    if !correct {
+        return 9;
+    }
+    if mark == 4 {
+        return 10;
+    }
+    0
+}
+
+// A line put into the parity line of a row by exclusive or.
+fn add_to_row(row_table: &mut [u8], row: RowIndex, line: [u8; 70])
+    requires { ⌜ suc (row .0) * 70 ≤ length (now «row_table») ⌝ }
+    ensures { λ _. ⌜ now («row_table» .exit) ≡ addTo (now («row_table» .entry)) (row .0) (places line) ⌝ }
+{
+    let r = row.0;
+    let parity = row_parity(row_table, RowIndex(r));
+    let sum = place::xor_lines(parity, line);
+    put_row_parity(row_table, RowIndex(r), sum);
+}
+
+// A line put into the parity line of a column by exclusive or.
+fn add_to_column(column_table: &mut [u8], column: ColumnIndex, line: [u8; 70])
+    requires { ⌜ suc (column .0) * 70 ≤ length (now «column_table») ⌝ }
+    ensures { λ _. ⌜ now («column_table» .exit) ≡ addTo (now («column_table» .entry)) (column .0) (places line) ⌝ }
+{
+    let c = column.0;
+    let parity = column_parity(column_table, ColumnIndex(c));
+    let sum = place::xor_lines(parity, line);
+    put_column_parity(column_table, ColumnIndex(c), sum);
+}
+
+// Line n written anew from 64 data bytes: 0, or the first refusal that fits, which writes nothing.
+pub fn change_line(
+    rows: usize,
+    columns: usize,
+    lines: &mut [u8],
+    row_table: &mut [u8],
+    column_table: &mut [u8],
+    n: usize,
+    payload: &[u8],
+) -> u32
+    ensures { λ r. ⌜ _≡_ {A = LineChanged}
+        (record {
+          answer = r;
+          lines = now (lines .exit);
+          rowTable = now («row_table» .exit);
+          columnTable = now («column_table» .exit);
+        })
+        (changeLine rows columns (now (lines .entry)) (now («row_table» .entry)) (now («column_table» .entry)) n (now (payload .entry))) ⌝ }
+{
+    let answer = refusal(rows, columns, lines, row_table, column_table, n, payload);
+    if answer != 0 {
+        return answer;
+    }
+    let read = alone_at(lines, n);
+    let old = read.line;
+    let new = alone::rewrite(place::load(payload));
+    let both = place::xor_lines(old, new);
+    put_line(lines, n, new);
+    let r = n / columns;
+    add_to_row(row_table, RowIndex(r), both);
+    let c = n % columns;
+    add_to_column(column_table, ColumnIndex(c), both);
+    0
+}
