@@ -10,3 +10,4 @@ pub mod Visiting
 pub mod FirstReading
 pub mod Running
 pub mod Checking
+pub mod Answering
