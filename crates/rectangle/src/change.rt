@@ -48,7 +48,8 @@ fn refusal(
     payload: &[u8],
 ) -> u32
     ensures { λ r. ⌜ r
-        ≡ changeRefusal rows columns (now (lines .entry)) (now («row_table» .entry)) (now («column_table» .entry)) n (now (payload .entry)) ⌝ }
+        ≡ changeRefusal rows columns (now (lines .entry)) (now («row_table» .entry)) (now («column_table» .entry)) n
+        (now (payload .entry)) ⌝ }
 {
     let refused = sizes::refusal(
         rows,
@@ -120,7 +121,8 @@ pub fn change_line(
           rowTable = now («row_table» .exit);
           columnTable = now («column_table» .exit);
         })
-        (changeLine rows columns (now (lines .entry)) (now («row_table» .entry)) (now («column_table» .entry)) n (now (payload .entry))) ⌝ }
+        (changeLine rows columns (now (lines .entry)) (now («row_table» .entry)) (now («column_table» .entry)) n
+        (now (payload .entry))) ⌝ }
 {
     let answer = refusal(rows, columns, lines, row_table, column_table, n, payload);
     if answer != 0 {
