@@ -28,14 +28,16 @@ fn parities_correct(
     column: ColumnIndex,
 ) -> bool
     requires { ⌜ (suc (row .0) * 70 ≤ length (now «row_table»)) × (suc (column .0) * 70 ≤ length (now «column_table»)) ⌝ }
-    ensures { λ r. ⌜ r ≡ isCorrect (placesAt (now («row_table» .entry)) (row .0)) && isCorrect (placesAt (now («column_table» .entry)) (column .0)) ⌝ }
+    ensures { λ r. ⌜ r
+        ≡ isCorrect (placesAt (now («row_table» .entry)) (row .0))
+        && isCorrect (placesAt (now («column_table» .entry)) (column .0)) ⌝ }
 {
     let of_row = alone::is_correct(row_parity(row_table, row));
     let of_column = alone::is_correct(column_parity(column_table, column));
     of_row && of_column
 }
 
-// The first refusal that fits, or 0: of the tables only the line's own two parity lines are tested for 9, and for 10 the line alone.
+// The first refusal that fits, or 0: only the line's own two parity lines are tested for 9, and the line alone for 10.
 fn refusal(
     rows: usize,
     columns: usize,
@@ -46,7 +48,8 @@ fn refusal(
     payload: &[u8],
 ) -> u32
     ensures { λ r. ⌜ r
-        ≡ changeRefusal rows columns (now (lines .entry)) (now («row_table» .entry)) (now («column_table» .entry)) n (now (payload .entry)) ⌝ }
+        ≡ changeRefusal rows columns (now (lines .entry)) (now («row_table» .entry)) (now («column_table» .entry)) n
+        (now (payload .entry)) ⌝ }
 {
     let refused = sizes::refusal(
         rows,
@@ -64,6 +67,7 @@ fn refusal(
     if rows * columns <= n {
         return 8;
     }
+    // What refusals 9 and 10 ask, and then both in their order.
     let r = n / columns;
     let c = n % columns;
     let correct = parities_correct(row_table, RowIndex(r), column_table, ColumnIndex(c));
@@ -117,7 +121,8 @@ pub fn change_line(
           rowTable = now («row_table» .exit);
           columnTable = now («column_table» .exit);
         })
-        (changeLine rows columns (now (lines .entry)) (now («row_table» .entry)) (now («column_table» .entry)) n (now (payload .entry))) ⌝ }
+        (changeLine rows columns (now (lines .entry)) (now («row_table» .entry)) (now («column_table» .entry)) n
+        (now (payload .entry))) ⌝ }
 {
     let answer = refusal(rows, columns, lines, row_table, column_table, n, payload);
     if answer != 0 {

@@ -18,11 +18,13 @@ same-length c = search needs
 
 returns : tie.Need-returns
 returns c =
-    let a = c .before .before .before .before .before .before .before .before .args in
-    added (a .column-table .now) (a .column .0) (c .before .before .before .before .before .column-parity .result) (a .line) (c .before .before .before .before .xor-lines .result) _
-    (c .before .before .before .before .before .column-parity .ensures)
-    (c .before .before .before .before .xor-lines .ensures)
-    (c .before .before .put-column-parity .ensures)
+    let put = c .before .before in
+    let summed = put .before .before in
+    let read = summed .before .column-parity in
+    let a = summed .before .before .before .before .args in
+    added (a .column-table .now) (a .column .0) (read .result) (a .line) (summed .xor-lines .result) _ (read .ensures)
+    (summed .xor-lines .ensures)
+    (put .put-column-parity .ensures)
 
 pub add-to-column-spec : {M : Type 1} → statement M
 add-to-column-spec =

@@ -21,13 +21,16 @@ is-correct-requires-2 c κs = search needs
 
 -- both tests made
 of-row : (c : tie.After-is-correct2)
-    → let a = c .before .before .before .before .before .before .args in isCorrect (placesAt (a .row-table .now) (a .row .0)) ≡ c .before .before .is-correct .result
+    → let a = c .before .before .before .before .before .before .args in
+    isCorrect (placesAt (a .row-table .now) (a .row .0)) ≡ c .before .before .is-correct .result
 of-row c =
-    let a = c .before .before .before .before .before .before .args in
-    correct-at (a .row-table .now) (a .row .0) _ _ (c .before .before .before .row-parity .ensures) (c .before .before .is-correct .ensures)
+    let tested = c .before .before in
+    let a = tested .before .before .before .before .args in
+    correct-at (a .row-table .now) (a .row .0) _ _ (tested .before .row-parity .ensures) (tested .is-correct .ensures)
 
 of-column : (c : tie.After-is-correct2)
-    → let a = c .before .before .before .before .before .before .args in isCorrect (placesAt (a .column-table .now) (a .column .0)) ≡ c .is-correct2 .result
+    → let a = c .before .before .before .before .before .before .args in
+    isCorrect (placesAt (a .column-table .now) (a .column .0)) ≡ c .is-correct2 .result
 of-column c =
     let a = c .before .before .before .before .before .before .args in
     correct-at (a .column-table .now) (a .column .0) _ _ (c .before .column-parity .ensures) (c .is-correct2 .ensures)

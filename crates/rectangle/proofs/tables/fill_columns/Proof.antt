@@ -30,9 +30,10 @@ group-parity-requires c κs = column-bytes _ _ _ (c .before .before .before .bef
 
 put-column-parity-requires : tie.Need-put-column-parity-requires Inv-loop μ-loop
 put-column-parity-requires c κs =
-    let start = c .before .before .before .before .before .before in
-    let inside : suc (c .before .before .before .loop .c) * 70 ≤ start .args .columns * 70 = mul-le-mul-right 70 (c .before .before .loop-test .taken) in
-    omega (arith, kept (c .before .before .before), start .pre .1)
+    let turn = c .before .before in
+    let start = turn .before .before .before .before in
+    let inside : suc (turn .before .loop .c) * 70 ≤ start .args .columns * 70 = mul-le-mul-right 70 (turn .loop-test .taken) in
+    omega (arith, kept (turn .before), start .pre .1)
 
 add-c : tie.Need-add-c Inv-loop μ-loop
 add-c c = omega arith
@@ -43,10 +44,13 @@ loop-less c = omega arith
 loop-again : tie.Need-loop-again Inv-loop μ-loop
 unfolding columnParity column
 loop-again c =
-    let here = c .before .before .before .before .before .before .loop in (
-      omega (arith, c .before .before .before .before .before .loop-test .taken),
-      fill-more _ _ (here .c) (here .column-table) (c .before .before .before .before .group-parity .result) _ (here .inv .1) (c .before .before .before .before .group-parity .ensures)
-          (c .before .before .put-column-parity .ensures),
+    let put = c .before .before in
+    let summed = put .before .before in
+    let turn = summed .before in
+    let here = turn .before .loop in (
+      omega (arith, turn .loop-test .taken),
+      fill-more _ _ (here .c) (here .column-table) (summed .group-parity .result) _ (here .inv .1) (summed .group-parity .ensures)
+          (put .put-column-parity .ensures),
     )
 
 same-length : tie.Need-same-length Inv-loop μ-loop

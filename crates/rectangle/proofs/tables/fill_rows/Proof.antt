@@ -33,9 +33,10 @@ group-parity-requires c κs = row-bytes _ _ _ (c .before .before .before .before
 
 put-row-parity-requires : tie.Need-put-row-parity-requires Inv-loop μ-loop
 put-row-parity-requires c κs =
-    let start = c .before .before .before .before .before .before in
-    let inside : suc (c .before .before .before .loop .r) * 70 ≤ start .args .rows * 70 = mul-le-mul-right 70 (c .before .before .loop-test .taken) in
-    omega (arith, kept (c .before .before .before), start .pre .1)
+    let turn = c .before .before in
+    let start = turn .before .before .before .before in
+    let inside : suc (turn .before .loop .r) * 70 ≤ start .args .rows * 70 = mul-le-mul-right 70 (turn .loop-test .taken) in
+    omega (arith, kept (turn .before), start .pre .1)
 
 add-r : tie.Need-add-r Inv-loop μ-loop
 add-r c = omega arith
@@ -46,10 +47,13 @@ loop-less c = omega arith
 loop-again : tie.Need-loop-again Inv-loop μ-loop
 unfolding rowParity row
 loop-again c =
-    let here = c .before .before .before .before .before .before .loop in (
-      omega (arith, c .before .before .before .before .before .loop-test .taken),
-      fill-more _ _ (here .r) (here .row-table) (c .before .before .before .before .group-parity .result) _ (here .inv .1) (c .before .before .before .before .group-parity .ensures)
-          (c .before .before .put-row-parity .ensures),
+    let put = c .before .before in
+    let summed = put .before .before in
+    let turn = summed .before in
+    let here = turn .before .loop in (
+      omega (arith, turn .loop-test .taken),
+      fill-more _ _ (here .r) (here .row-table) (summed .group-parity .result) _ (here .inv .1) (summed .group-parity .ensures)
+          (put .put-row-parity .ensures),
     )
 
 same-length : tie.Need-same-length Inv-loop μ-loop

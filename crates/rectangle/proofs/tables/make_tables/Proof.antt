@@ -18,11 +18,14 @@ returns c =
     (tables-sizes (a .rows) (a .columns) (a .lines .now) (a .row-table .now) (a .column-table .now) _ (c .before .refusal .ensures) (c .if1 .taken))
     (c .if1 .taken)
 
--- the sizes fit
-fit : (c : tie.Else1) → let a = c .before .before .before .before .before .args in SizesPass (a .rows) (a .columns) (a .lines .now) (a .row-table .now) (a .column-table .now)
+-- past the first test the sizes fit
+fit : (c : tie.Else1)
+    → let a = c .before .before .before .before .before .args in
+    SizesPass (a .rows) (a .columns) (a .lines .now) (a .row-table .now) (a .column-table .now)
 fit c =
     let a = c .before .before .before .before .before .args in
-    sizes-passed (a .rows) (a .columns) (a .lines .now) (a .row-table .now) (a .column-table .now) _ (c .before .refusal .ensures) (c .if1 .left)
+    sizes-passed (a .rows) (a .columns) (a .lines .now) (a .row-table .now) (a .column-table .now) _
+    (c .before .refusal .ensures) (c .if1 .left)
 
 mul-all-accepted : tie.Need-mul-all-accepted
 mul-all-accepted c = omega (arith, area _ _ (fit c .sides))
@@ -52,11 +55,15 @@ same-length-2 c = search needs
 
 returns-3 : tie.Need-returns-3
 returns-3 c =
-    let a = c .before .before .before .before .before .before .before .before .before .before .before .before .before .before .before .args in
-    tables-made (a .rows) (a .columns) (a .lines .now) (a .row-table .now) (a .column-table .now) _ _ (fit (c .before .before .before .before .before .before .before .before .before .before))
-    (sym (c .before .before .before .before .before .before .before .before .before .all-accepted .ensures) ∙ not-false _ (c .before .before .before .before .before .before .before .before .if2 .left))
-    (c .before .before .before .before .before .before .fill-rows .ensures)
-    (c .before .before .fill-columns .ensures)
+    let column = c .before .before in
+    let row = column .before .before .before .before in
+    let accepted = row .before .before in
+    let sized = accepted .before .before in
+    let a = sized .before .before .before .before .before .args in
+    tables-made (a .rows) (a .columns) (a .lines .now) (a .row-table .now) (a .column-table .now) _ _ (fit sized)
+    (sym (accepted .before .all-accepted .ensures) ∙ not-false _ (accepted .if2 .left))
+    (row .fill-rows .ensures)
+    (column .fill-columns .ensures)
 
 pub make-tables-spec : {M : Type 1} → statement M
 make-tables-spec =
