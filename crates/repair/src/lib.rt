@@ -99,10 +99,10 @@ pub fn repair(
         (record { answer = r .answer; passes = r .passes; lines = now (out .exit); marks = now (marks .exit) })
         (repairStore rows columns (now (lines .entry)) (now («row_table» .entry)) (now («column_table» .entry)) (now (out .entry)) (now (marks .entry))) ⌝ }
 {
-    let refused = refusal(rows, columns, lines, row_table, column_table, out, marks);
-    if refused != 0 {
+    let turned_back = refusal(rows, columns, lines, row_table, column_table, out, marks);
+    if turned_back != 0 {
         return Repaired {
-            answer: refused,
+            answer: turned_back,
             passes: 0,
         };
     }

@@ -5,9 +5,11 @@ use Prim.Native.Nat.{ℕ}
 use lib.Dec.{eqb}
 use lib.ListN.{replicate}
 use Rattle.gf2.specs.Word.{Word, zeros, same, flip}
+use Rattle.linecode.specs.Places.{lineOf}
 use Rattle.linecode.specs.Code.{syndrome, answerTo, placeOf}
 use Rattle.linecode.specs.Reading.{readAlone}
 use Rattle.linecode.specs.Entry.{written}
+use Rattle.rectangle.specs.Repair.{StoreRepaired, repairStore}
 
 -- a row of the table
 pub data Sample : Type 0 where
@@ -17,6 +19,25 @@ pub data Sample : Type 0 where
   accepts : List ℕ → ℕ → Sample
   -- the zero line, hurt at these places, has this syndrome, which names this place (553 for none), and is faulty
   refuses : List ℕ → ℕ → ℕ → Sample
+  -- these four lines of a 2 by 2 store with zero tables come back as zero lines with these marks, passes and answer 0
+  mends : List (List ℕ) → List ℕ → ℕ → Sample
+  -- these are handed over as found with these marks, passes and this answer
+  leaves : List (List ℕ) → List ℕ → ℕ → ℕ → Sample
+
+-- a line hurt at some places
+abbrev pub hurtAt : List ℕ → Word → Word
+hurtAt [] w = w
+hurtAt (i ∷ is) w = flip i (hurtAt is w)
+
+-- the zero line, the zero line hurt at some places, and the line of which only data place 511 is set
+unfoldable pub clean : List ℕ
+clean = replicate 70 0
+
+unfoldable pub hurt : List ℕ → List ℕ
+hurt is = lineOf (hurtAt is (zeros 553))
+
+unfoldable pub last : List ℕ
+last = replicate 63 0 ++ (0x80 ∷ 0xC7 ∷ 0x6F ∷ 0x66 ∷ 0x56 ∷ 0x09 ∷ 0x00 ∷ [])
 
 abbrev pub samples : List Sample
 samples =
@@ -29,18 +50,31 @@ samples =
     ∷ refuses (2 ∷ 3 ∷ []) 1 543
     ∷ refuses (35 ∷ 552 ∷ []) 554 553
     ∷ refuses (34 ∷ 552 ∷ []) 553 542
+    ∷ mends (hurt (0 ∷ 1 ∷ []) ∷ clean ∷ clean ∷ clean ∷ []) (3 ∷ 0 ∷ 0 ∷ 0 ∷ []) 1
+    ∷ mends (hurt (0 ∷ 1 ∷ []) ∷ hurt (2 ∷ 3 ∷ []) ∷ clean ∷ clean ∷ []) (2 ∷ 2 ∷ 0 ∷ 0 ∷ []) 1
+    ∷ mends (hurt (0 ∷ 1 ∷ []) ∷ hurt (0 ∷ 1 ∷ []) ∷ clean ∷ clean ∷ []) (3 ∷ 3 ∷ 0 ∷ 0 ∷ []) 1
+    ∷ mends (hurt (0 ∷ 1 ∷ []) ∷ hurt (0 ∷ 1 ∷ []) ∷ hurt (0 ∷ 1 ∷ []) ∷ clean ∷ []) (3 ∷ 3 ∷ 3 ∷ 0 ∷ []) 1
+    ∷ leaves (hurt (0 ∷ 1 ∷ []) ∷ hurt (0 ∷ 1 ∷ []) ∷ hurt (0 ∷ 1 ∷ []) ∷ hurt (0 ∷ 1 ∷ []) ∷ []) (4 ∷ 4 ∷ 4 ∷ 4 ∷ []) 1 11
+    ∷ leaves (last ∷ clean ∷ clean ∷ clean ∷ []) (0 ∷ 0 ∷ 0 ∷ 0 ∷ []) 0 12
     ∷ []
-
--- a line hurt at some places
-abbrev pub hurtAt : List ℕ → Word → Word
-hurtAt [] w = w
-hurtAt (i ∷ is) w = flip i (hurtAt is w)
 
 abbrev pub sameBytes : List ℕ → List ℕ → Bool
 sameBytes [] [] = true
 sameBytes [] (b ∷ y) = false
 sameBytes (a ∷ x) [] = false
 sameBytes (a ∷ x) (b ∷ y) = eqb a b && sameBytes x y
+
+-- repair of four lines as a 2 by 2 store with zero tables gives these lines, marks, passes and answer
+abbrev pub gives : StoreRepaired → List ℕ → List ℕ → ℕ → ℕ → Bool
+gives r lines marks passes answer =
+    sameBytes (r .lines) lines && sameBytes (r .marks) marks && eqb (r .passes) passes && eqb (r .answer) answer
+
+abbrev pub joined : List (List ℕ) → List ℕ
+joined [] = []
+joined (l ∷ ls) = l ++ joined ls
+
+unfoldable pub repairedStore : List (List ℕ) → StoreRepaired
+repairedStore found = repairStore 2 2 (joined found) (replicate 140 0) (replicate 140 0) (replicate 280 0) (replicate 4 0)
 
 -- what a row claims
 abbrev pub holds : Sample → Bool
@@ -51,6 +85,8 @@ holds (refuses hurt number place) =
     let line = hurtAt hurt (zeros 553) in
     let read = readAlone line in
     eqb (syndrome line) number && eqb (placeOf (answerTo number)) place && same (read .word) line && eqb (read .mark) 4
+holds (mends found marks passes) = gives (repairedStore found) (replicate 280 0) marks passes 0
+holds (leaves found marks passes answer) = gives (repairedStore found) (joined found) marks passes answer
 
 abbrev pub all : List Sample → Bool
 all [] = true
