@@ -103,21 +103,24 @@ static FOLD: [u8; 256] = {
     let mut byte = 0;
     while byte < 256 {
         let bits = byte as u8;
-        table[byte] = ((bits & 0xAA).count_ones() & 1) as u8
-            | ((bits & 0xCC).count_ones() & 1) as u8 * 2
-            | ((bits & 0xF0).count_ones() & 1) as u8 * 4;
+        let odd = (bits & 0xAA).count_ones() & 1;
+        let pairs = (bits & 0xCC).count_ones() & 1;
+        let fours = (bits & 0xF0).count_ones() & 1;
+        table[byte] = (odd | pairs << 1 | fours << 2) as u8;
         byte += 1;
     }
     table
 };
 
-/// The words of 64 data bytes.
+/// The line written for 64 data bytes.
 #[inline]
-pub fn data_words(data: &[u8; DATA_BYTES]) -> [u64; 8] {
-    let mut words = [0; 8];
-    for (word, bytes) in words.iter_mut().zip(data.as_chunks::<8>().0) {
+pub fn written(data: &[u8; DATA_BYTES]) -> Words {
+    let mut words = ZERO;
+    for (word, bytes) in words.iter_mut().zip(data.as_chunks().0) {
         *word = u64::from_le_bytes(*bytes);
     }
+    let crc = crc(data_of(&words));
+    words[8] = u64::from(crc) | hamming_bits(data_of(&words), crc) << 32;
     words
 }
 
@@ -125,24 +128,24 @@ pub fn data_words(data: &[u8; DATA_BYTES]) -> [u64; 8] {
 #[inline]
 pub fn load(line: &[u8; LINE_BYTES]) -> Words {
     let mut words = ZERO;
-    let (chunks, tail) = line.as_chunks::<8>();
-    for (word, bytes) in words.iter_mut().zip(chunks) {
+    for (word, bytes) in words.iter_mut().zip(line.as_chunks().0) {
         *word = u64::from_le_bytes(*bytes);
     }
-    let mut last = [0; 8];
-    last[..6].copy_from_slice(tail);
-    words[8] = u64::from_le_bytes(last) & TAIL_PLACES;
+    // The last six bytes come with the two before them, in one go.
+    let last = line.last_chunk().copied().unwrap_or_default();
+    words[8] = u64::from_le_bytes(last) >> 16 & TAIL_PLACES;
     words
 }
 
 /// The bytes of a line.
 #[inline]
 pub fn store(words: &Words, line: &mut [u8; LINE_BYTES]) {
-    let (chunks, tail) = line.as_chunks_mut::<8>();
-    for (bytes, word) in chunks.iter_mut().zip(words) {
+    for (bytes, word) in line.as_chunks_mut().0.iter_mut().zip(words) {
         *bytes = word.to_le_bytes();
     }
-    tail.copy_from_slice(&words[8].to_le_bytes()[..6]);
+    if let Some(last) = line.last_chunk_mut() {
+        *last = (words[7] >> 48 | words[8] << 16).to_le_bytes();
+    }
 }
 
 /// Adds a line to a sum.
@@ -154,7 +157,7 @@ pub fn add(sum: &mut Words, line: &Words) {
 }
 
 /// The CRC of the data, place 512 in bit 0.
-#[inline]
+#[inline(always)]
 pub fn crc(data: &[u64; 8]) -> u32 {
     let mut crc = 0;
     for pair in data.as_chunks::<2>().0 {

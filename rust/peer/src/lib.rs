@@ -57,11 +57,7 @@ pub fn write_line(data: &[u8], line: &mut [u8]) -> u32 {
     ) else {
         return answer::BUFFER;
     };
-    let words = code::data_words(data);
-    let crc = code::crc(&words);
-    let tail = u64::from(crc) | code::hamming_bits(&words, crc) << 32;
-    line[..DATA_BYTES].copy_from_slice(data);
-    line[DATA_BYTES..].copy_from_slice(&tail.to_le_bytes()[..6]);
+    code::store(&code::written(data), line);
     answer::DONE
 }
 

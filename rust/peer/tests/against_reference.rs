@@ -190,63 +190,39 @@ fn refusals_agree() {
     let mut random = Random::new(9);
     let mut answers = [0usize; 13];
     for _ in 0..20_000 {
-        let (mut rows, mut columns) = draw::sides(&mut random, 3);
-        let store = if random.once_in(2) {
-            draw::hurt_store(&mut random, 3)
-        } else {
-            Store::zero(rows, columns)
-        };
-        if random.once_in(10) {
-            rows = [0, 1, 513, usize::MAX][random.below(4)];
-        }
-        if random.once_in(10) {
-            columns = [0, 1, 513, usize::MAX][random.below(4)];
-        }
-        let mut cut = |mut bytes: Vec<u8>| {
-            if random.once_in(5) {
-                bytes.resize(draw::near_length(&mut random, bytes.len()), FILLING);
-            }
-            bytes
-        };
-        let out = cut(vec![FILLING; store.lines.len()]);
-        let marks = cut(vec![FILLING; store.count()]);
-        let data = cut(vec![FILLING; 64]);
-        let line = cut(vec![FILLING; LINE_BYTES]);
-        let found = cut(vec![FILLING; LINE_BYTES]);
-        let lines = cut(store.lines);
-        let row_table = cut(store.row_table);
-        let column_table = cut(store.column_table);
+        let call = draw::call(&mut random, 3);
+        let (rows, columns) = (call.rows, call.columns);
 
-        let (mut a, mut b) = (line.clone(), line.clone());
-        assert_eq!(
-            reference::write_line(&data, &mut a),
-            peer::write_line(&data, &mut b)
-        );
+        let (mut a, mut b) = (call.line_out.clone(), call.line_out.clone());
+        let expected = reference::write_line(&call.data, &mut a);
+        assert_eq!(peer::write_line(&call.data, &mut b), expected);
         assert_eq!(a, b);
-        let (mut a, mut b) = (line.clone(), line);
-        let expected = reference::read_line(&found, &mut a);
-        let given = peer::read_line(&found, &mut b);
-        assert_eq!(
-            (given.answer, given.mark, b),
-            (expected.answer, expected.mark, a)
-        );
 
-        let (mut a, mut b) = (row_table.clone(), row_table.clone());
-        let (mut c, mut d) = (column_table.clone(), column_table.clone());
-        let expected = reference::make_tables(rows, columns, &lines, &mut a, &mut c);
-        let given = peer::make_tables(rows, columns, &lines, &mut b, &mut d);
-        assert_eq!((given, b, d), (expected, a, c));
+        let (mut a, mut b) = (call.line_out.clone(), call.line_out.clone());
+        let expected = reference::read_line(&call.line, &mut a);
+        let given = peer::read_line(&call.line, &mut b);
+        assert_eq!((given.answer, given.mark), (expected.answer, expected.mark));
+        assert_eq!(a, b);
 
-        let (mut a, mut b) = (out.clone(), out);
-        let (mut c, mut d) = (marks.clone(), marks);
-        let (r, k) = (&row_table, &column_table);
-        let expected = reference::repair(rows, columns, &lines, r, k, &mut a, &mut c);
-        let given = peer::repair(rows, columns, &lines, r, k, &mut b, &mut d);
+        let (mut a, mut b) = (call.clone(), call.clone());
+        let (row, column) = (&mut a.row_table, &mut a.column_table);
+        let expected = reference::make_tables(rows, columns, &call.lines, row, column);
+        let (row, column) = (&mut b.row_table, &mut b.column_table);
+        let given = peer::make_tables(rows, columns, &call.lines, row, column);
+        assert_eq!(given, expected);
+        assert_eq!(a, b);
+
+        let (mut a, mut b) = (call.clone(), call.clone());
+        let (lines, row, column) = (&call.lines, &call.row_table, &call.column_table);
+        let (out, marks) = (&mut a.out, &mut a.marks);
+        let expected = reference::repair(rows, columns, lines, row, column, out, marks);
+        let (out, marks) = (&mut b.out, &mut b.marks);
+        let given = peer::repair(rows, columns, lines, row, column, out, marks);
         assert_eq!(
             (given.answer, given.passes),
             (expected.answer, expected.passes)
         );
-        assert_eq!((b, d), (a, c));
+        assert_eq!(a, b);
         answers[given.answer as usize] += 1;
     }
     for answer in [0, 2, 5, 6, 7, 9, 11, 12] {

@@ -68,10 +68,9 @@ impl LineCode {
     /// The check is the remainder of the data moved up by the generator's
     /// degree, which makes the protected word divisible.
     pub fn write(&self, data: &[bool]) -> Vec<bool> {
-        let moved_up = fit(&fit(data, self.data), self.protected());
-        let check = polynomial::remainder(&moved_up, &self.generator);
         let mut line = fit(data, self.data);
-        line.extend(check);
+        let moved_up = fit(&line, self.protected());
+        line.extend(polynomial::remainder(&moved_up, &self.generator));
         line.extend(self.hamming.bits(&line));
         line
     }
@@ -122,7 +121,7 @@ impl LineCode {
 
 /// The row with this length: cut off, or zeros put after it.
 fn fit(row: &[bool], length: usize) -> Vec<bool> {
-    let mut fitted: Vec<bool> = row.iter().copied().take(length).collect();
+    let mut fitted = row[..row.len().min(length)].to_vec();
     fitted.resize(length, false);
     fitted
 }

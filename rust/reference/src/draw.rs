@@ -94,7 +94,7 @@ impl Store {
         flip(self.line_mut(n), places);
     }
 
-    /// The store's file.
+    /// The store's file, for sides that its header can tell.
     pub fn file(&self) -> Vec<u8> {
         let mut bytes = file::header(self.rows as u16, self.columns as u16).to_vec();
         bytes.extend(&self.lines);
@@ -199,11 +199,11 @@ pub fn sides(random: &mut Random, most: usize) -> (usize, usize) {
 pub fn near_length(random: &mut Random, right: usize) -> usize {
     match random.below(8) {
         0 => 0,
-        1 => right + 1,
+        1 => right.saturating_add(1),
         2 => right.saturating_sub(1),
-        3 => right + LINE_BYTES,
+        3 => right.saturating_add(LINE_BYTES),
         4 => right.saturating_sub(LINE_BYTES),
-        5 => right * 2,
+        5 => right.saturating_mul(2),
         6 => random.below(right.saturating_add(200)),
         _ => right,
     }
@@ -509,6 +509,93 @@ pub fn hurt_store(random: &mut Random, most: usize) -> Store {
         set_spare_bits(random, &mut store.column_table, 3);
     }
     store
+}
+
+/// What may be handed to any entry point, right or wrong.
+#[derive(Clone, Debug, PartialEq, Eq)]
+pub struct Call {
+    /// The rows said.
+    pub rows: usize,
+    /// The columns said.
+    pub columns: usize,
+    /// The lines.
+    pub lines: Vec<u8>,
+    /// The row table, read or written.
+    pub row_table: Vec<u8>,
+    /// The column table, read or written.
+    pub column_table: Vec<u8>,
+    /// Repair's line buffer.
+    pub out: Vec<u8>,
+    /// Repair's marks.
+    pub marks: Vec<u8>,
+    /// The number of the line to be changed.
+    pub n: usize,
+    /// The data to be written.
+    pub data: Vec<u8>,
+    /// A single line to be read.
+    pub line: Vec<u8>,
+    /// The buffer for a single line written or read.
+    pub line_out: Vec<u8>,
+}
+
+/// Draws a call over a hurt store of sides up to `most`. Half of the calls
+/// have right sides and lengths; in the others some are wrong. Buffers that
+/// are only written hold drawn bytes.
+pub fn call(random: &mut Random, most: usize) -> Call {
+    let store = hurt_store(random, most);
+    let lines = store.count();
+    let mut data = vec![0; DATA_BYTES];
+    random.fill(&mut data);
+    let n = random.below(lines);
+    let mut call = Call {
+        rows: store.rows,
+        columns: store.columns,
+        line: store.line(n).to_vec(),
+        out: vec![0; store.lines.len()],
+        marks: vec![0; lines],
+        lines: store.lines,
+        row_table: store.row_table,
+        column_table: store.column_table,
+        n,
+        data,
+        line_out: vec![0; LINE_BYTES],
+    };
+    for written in [&mut call.out, &mut call.marks, &mut call.line_out] {
+        random.fill(written);
+    }
+    if random.once_in(2) {
+        return call;
+    }
+    // Each thing is right most often, so that late refusals come up too.
+    let wrong_sides = [0, 1, 513, 65536, usize::MAX];
+    for side in [&mut call.rows, &mut call.columns] {
+        if random.once_in(12) {
+            *side = random.pick(&wrong_sides).copied().unwrap_or(0);
+        } else if random.once_in(12) {
+            *side = random.between(2, 512);
+        }
+    }
+    for buffer in [
+        &mut call.lines,
+        &mut call.row_table,
+        &mut call.column_table,
+        &mut call.out,
+        &mut call.marks,
+        &mut call.data,
+        &mut call.line,
+        &mut call.line_out,
+    ] {
+        if random.once_in(10) {
+            let length = near_length(random, buffer.len());
+            buffer.resize(length, 0xD7);
+        }
+    }
+    match random.below(6) {
+        0 => call.n = lines,
+        1 => call.n = usize::MAX,
+        _ => {}
+    }
+    call
 }
 
 /// A store that needs about half as many passes as its sides: a staircase of

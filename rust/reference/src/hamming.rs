@@ -16,8 +16,9 @@ pub enum Named {
 pub struct Hamming {
     /// The position of each protected place.
     positions: Vec<usize>,
-    /// How many Hamming bits there are.
-    checks: usize,
+    /// For each Hamming bit k and each protected place, whether the place's
+    /// position has bit k.
+    covers: Vec<Vec<bool>>,
 }
 
 impl Hamming {
@@ -36,7 +37,10 @@ impl Hamming {
         while highest >> checks != 0 {
             checks += 1;
         }
-        Hamming { positions, checks }
+        let covers = (0..checks)
+            .map(|k| positions.iter().map(|p| (p >> k) & 1 == 1).collect())
+            .collect();
+        Hamming { positions, covers }
     }
 
     /// The positions of the protected places.
@@ -46,7 +50,7 @@ impl Hamming {
 
     /// How many Hamming bits there are.
     pub fn checks(&self) -> usize {
-        self.checks
+        self.covers.len()
     }
 
     /// The highest position of all.
@@ -57,15 +61,11 @@ impl Hamming {
     /// The Hamming bits of a protected word: bit k is the parity of the places
     /// whose position has bit k.
     pub fn bits(&self, protected: &[bool]) -> Vec<bool> {
-        (0..self.checks)
-            .map(|k| {
-                let mut parity = false;
-                for (&position, &set) in self.positions.iter().zip(protected) {
-                    parity ^= set && (position >> k) & 1 == 1;
-                }
-                parity
-            })
-            .collect()
+        let parity = |covers: &Vec<bool>| {
+            let places = covers.iter().zip(protected);
+            places.fold(false, |parity, (covered, set)| parity ^ (covered & set))
+        };
+        self.covers.iter().map(parity).collect()
     }
 
     /// The syndrome: the exclusive or of the positions of all set protected
@@ -77,7 +77,7 @@ impl Hamming {
                 syndrome ^= position;
             }
         }
-        for (k, &set) in hamming.iter().take(self.checks).enumerate() {
+        for (k, &set) in hamming.iter().take(self.checks()).enumerate() {
             if set {
                 syndrome ^= 1 << k;
             }

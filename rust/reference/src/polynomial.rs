@@ -67,7 +67,7 @@ pub fn remainder(word: &[bool], generator: &[bool]) -> Vec<bool> {
     // Wherever the highest bit left is set, take the generator away there.
     for i in 0..rest.len() - degree {
         if rest[i] {
-            for (bit, &taken) in rest[i..].iter_mut().zip(generator) {
+            for (bit, taken) in rest[i..i + generator.len()].iter_mut().zip(generator) {
                 *bit ^= taken;
             }
         }

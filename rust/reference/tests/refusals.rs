@@ -399,50 +399,101 @@ fn reports_of_refusal_9_and_answers_11_and_12() {
 }
 
 #[test]
-fn any_bytes_and_lengths_are_taken() {
+fn drawn_calls_reach_every_refusal() {
     let mut random = Random::new(11);
-    for _ in 0..3000 {
-        let (rows, columns) = match random.below(4) {
-            0 => (random.below(4), random.below(4)),
-            1 => (random.number() as usize, random.number() as usize),
-            _ => draw::sides(&mut random, 3),
+    // For writing, reading, tables, changing and repairing.
+    let mut answers = [[0usize; 13]; 5];
+    for _ in 0..20_000 {
+        let mut call = draw::call(&mut random, 3);
+        if random.once_in(8) {
+            random.fill(&mut call.lines);
+        }
+        let before = call.clone();
+        let (rows, columns) = (call.rows, call.columns);
+        let mut count = |entry: usize, answer: u32| {
+            answers[entry][answer as usize] += 1;
+            (1..=10).contains(&answer)
         };
-        let fitting = rows.saturating_mul(columns).min(9) * LINE_BYTES;
-        let mut buffer = |right: usize| {
-            let mut bytes = vec![0; draw::near_length(&mut random, right)];
-            random.fill(&mut bytes);
-            bytes
-        };
-        let mut lines = buffer(fitting);
-        let mut row_table = buffer(rows.min(4) * LINE_BYTES);
-        let mut column_table = buffer(columns.min(4) * LINE_BYTES);
-        let mut out = buffer(fitting);
-        let mut marks = buffer(fitting / LINE_BYTES);
-        let data = buffer(64);
-        let n = random.below(10);
-        storecheck(&lines);
-        check_file(&lines);
-        write_line(&data, &mut out);
-        read_line(&lines, &mut out);
-        make_tables(rows, columns, &lines, &mut row_table, &mut column_table);
-        change_line(
-            rows,
-            columns,
-            &mut lines,
-            &mut row_table,
-            &mut column_table,
-            n,
-            &data,
-        );
+
+        if count(0, write_line(&call.data, &mut call.line_out)) {
+            assert_eq!(call, before);
+        }
+        call.line_out.clone_from(&before.line_out);
+        let read = read_line(&call.line, &mut call.line_out);
+        if count(1, read.answer) && read.answer != 10 {
+            assert_eq!(read.mark, 0);
+            assert_eq!(call, before);
+        }
+        call.line_out.clone_from(&before.line_out);
         let given = repair(
             rows,
             columns,
-            &lines,
-            &row_table,
-            &column_table,
-            &mut out,
-            &mut marks,
+            &call.lines,
+            &call.row_table,
+            &call.column_table,
+            &mut call.out,
+            &mut call.marks,
         );
-        assert!(given.answer <= 12);
+        if count(4, given.answer) {
+            assert_eq!(given.passes, 0);
+            assert_eq!(call, before);
+        }
+        call.clone_from(&before);
+        let changed = change_line(
+            rows,
+            columns,
+            &mut call.lines,
+            &mut call.row_table,
+            &mut call.column_table,
+            call.n,
+            &call.data,
+        );
+        if count(3, changed) {
+            assert_eq!(call, before);
+        }
+        call.clone_from(&before);
+        let made = make_tables(
+            rows,
+            columns,
+            &call.lines,
+            &mut call.row_table,
+            &mut call.column_table,
+        );
+        if count(2, made) {
+            assert_eq!(call, before);
+        }
+    }
+    let due: [&[usize]; 5] = [
+        &[0, 7],
+        &[0, 5, 7, 10],
+        &[0, 2, 5, 6, 10],
+        &[0, 2, 5, 6, 7, 8, 9, 10],
+        &[0, 2, 5, 6, 7, 9, 11, 12],
+    ];
+    for (entry, counts) in answers.iter().enumerate() {
+        println!("{counts:?}");
+        for (answer, &count) in counts.iter().enumerate() {
+            let is_due = due[entry].contains(&answer);
+            assert_eq!(
+                count > 20,
+                is_due,
+                "entry {entry}, answer {answer}: {count}"
+            );
+            assert!(is_due || count == 0);
+        }
+    }
+}
+
+#[test]
+fn any_bytes_are_taken_as_a_file() {
+    let mut random = Random::new(16);
+    for _ in 0..5000 {
+        let mut bytes = vec![0; random.below(600)];
+        random.fill(&mut bytes);
+        if random.once_in(2) && bytes.len() >= 28 {
+            bytes[..28].copy_from_slice(&file::header(2, 2));
+        }
+        assert_ne!(check_file(&bytes).answer, 3);
+        assert!(storecheck(&bytes).starts_with("answer "));
     }
 }
