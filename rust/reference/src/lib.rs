@@ -22,6 +22,19 @@
 //! The entry points take byte slices of any length and never panic on them.
 //! What they write goes into the buffers lent to them; after a refusal from 1
 //! to 10 these hold what they held before, but for [`read_line`]'s 10.
+//!
+//! ```
+//! let mut line = [0; 70];
+//! assert_eq!(reference::write_line(b"To be, or not to be, that is the question: Whether 'tis nobler i", &mut line), 0);
+//!
+//! // One bit turns over; the line still reads alone.
+//! let mut hurt = line;
+//! hurt[5] ^= 0x10;
+//! let mut out = [0; 70];
+//! let read = reference::read_line(&hurt, &mut out);
+//! assert_eq!((read.answer, read.mark), (0, 1));
+//! assert_eq!(out, line);
+//! ```
 
 pub mod code;
 pub mod draw;
