@@ -10,7 +10,7 @@
 //! | "CRC" | [`polynomial`] |
 //! | "Hamming" | [`hamming`] |
 //! | "Reading alone", for any width | [`code`] |
-//! | "One line, 70 bytes" | [`line`] |
+//! | "One line, 70 bytes" | [`line`](mod@line) |
 //! | "The rectangle" | [`rectangle`] |
 //! | "Repair" | [`repair`](mod@repair) |
 //! | "Store file" | [`file`](mod@file) |

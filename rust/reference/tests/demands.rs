@@ -44,11 +44,13 @@ fn demand_3_on_staircases_with_trials() {
         let mut hurt = written.clone();
         let mut order = Vec::new();
         for i in 0..side {
-            for n in [i * side + i, i * side + (i + 1) % side] {
-                hurt.hurt(n, &[2 * i, 2 * i + 1 + n % 2]);
+            for j in 0..2 {
+                let n = i * side + (i + j) % side;
+                hurt.hurt(n, &[2 * i, 2 * i + 1 + j]);
                 order.push(n);
             }
         }
+        assert!(draw::order_fits(&written, &hurt, &order));
         let outcome = hurt.repaired(0);
         assert_eq!((outcome.answer, outcome.passes), (0, 1));
         assert_eq!(outcome.lines, written.lines);

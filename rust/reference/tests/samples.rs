@@ -289,7 +289,7 @@ fn sides_2_and_512_pass_1_and_513_do_not() {
 fn the_greatest_store_passes() {
     let mut random = Random::new(512);
     let mut store = Store::zero(512, 512);
-    // A line in each row and column, twice over, hurt alike.
+    // One line in each row and column, hurt alike; one more has one bit.
     for i in 0..512 {
         store.hurt(i * 512 + i, &[3, 4, 5]);
     }
