@@ -1,0 +1,7 @@
+-- Laws of the store file.
+pub mod Placing
+pub mod Numbers
+pub mod Sides
+pub mod Headers
+pub mod Openings
+pub mod Counting

@@ -1,0 +1,6 @@
+-- The store file, in document 01's order: read Bytes, then Header, Opening, Marks, Report.
+pub mod Bytes
+pub mod Header
+pub mod Opening
+pub mod Marks
+pub mod Report
