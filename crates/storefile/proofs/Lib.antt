@@ -5,3 +5,5 @@ pub mod Sides
 pub mod Headers
 pub mod Openings
 pub mod Counting
+pub mod Decimal
+pub mod Writing

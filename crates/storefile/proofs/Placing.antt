@@ -7,7 +7,7 @@ use native.Mathlib.Numerals.{add-one}
 use native.Mathlib.Omega.{arith}
 use lib.ListN.{length, take, drop, getD, set, length-append, length-drop, drop-of-length-le}
 use lib.Seq.{length-take-le, take-at, take-length, drop-append-add, drop-drop, sets-eq, paste, paste-zero, paste-suc, length-paste}
-use Rattle.storefile.specs.Bytes.{placed}
+use Rattle.storefile.specs.Bytes.{placed, Put}
 
 module _ (old : List ℕ) (at : ℕ) where
   pub placed-length : (a : List ℕ) → at + length a ≤ length old → length (placed old at a) ≡ length old
@@ -44,7 +44,11 @@ module _ (old : List ℕ) (at : ℕ) where
   placed-then w buffer k bytes next here room e f =
       f ∙ ap₂ (λ (l : List ℕ) (j : ℕ). placed l j bytes) e here ∙ placed-next w bytes (omega arith)
 
-  -- two stores
+  -- one store, and two
+  pub placed-one : (x : ℕ) → at < length old → set old at x ≡ placed old at (x ∷ [])
+  unfolding placed
+  placed-one x h = sets-eq (x ∷ []) old at (omega arith)
+
   pub placed-two : (x y : ℕ) → at + 2 ≤ length old → set (set old at x) (at + 1) y ≡ placed old at (x ∷ y ∷ [])
   unfolding placed
   placed-two x y h = ap (λ (k : ℕ). set (set old at x) k y) (add-one at) ∙ sets-eq (x ∷ y ∷ []) old at h
@@ -57,6 +61,15 @@ placed-start old a = ap (λ (k : ℕ). a ++ drop k old) (zero-add (length a))
 pub placed-whole : (old a : List ℕ) → length old ≡ length a → placed old 0 a ≡ a
 placed-whole old a e =
     placed-start old a ∙ ap (λ (l : List ℕ). a ++ l) (drop-of-length-le old {i = length a} (omega arith)) ∙ append-nil a
+
+-- two runs of bytes put one after the other are one run
+pub put-then : (old : List ℕ) (at : ℕ) (a mid : List ℕ) (k : ℕ) (b new : List ℕ) (next : ℕ) → k ≤ length old
+    → Put old at a mid k → Put mid k b new next → Put old at (a ++ b) new next
+put-then old at a mid k b new next room p q =
+    record {
+      after = omega (arith, p .after, q .after, length-append a b);
+      put = placed-then old at a mid k b new (p .after) room (p .put) (q .put);
+    }
 
 -- the loop that puts bytes: i of them stand in the buffer
 pub record Putting (old : List ℕ) (at : ℕ) (bytes buffer : List ℕ) (i : ℕ) : Type 0 where
@@ -82,11 +95,13 @@ module _ (old : List ℕ) (at : ℕ) (bytes buffer : List ℕ) (i : ℕ) (p : Pu
             ∙ ap (paste old at bytes) (sym (add-one i));
       }
 
-  pub putting-end : length bytes ≤ i → (at + i ≡ at + length bytes) × (buffer ≡ placed old at bytes)
+  pub putting-end : length bytes ≤ i → Put old at bytes buffer (at + i)
   unfolding placed
   putting-end h =
-      let e : i ≡ length bytes = omega (arith, p .few) in (
-        ap (λ (k : ℕ). at + k) e,
-        p .put ∙ ap (paste old at bytes) e
-            ∙ ap (λ (l : List ℕ). take at old ++ l ++ drop (at + length bytes) old) (take-length bytes),
-      )
+      let e : i ≡ length bytes = omega (arith, p .few) in
+      record {
+        after = ap (λ (k : ℕ). at + k) e;
+        put =
+            p .put ∙ ap (paste old at bytes) e
+            ∙ ap (λ (l : List ℕ). take at old ++ l ++ drop (at + length bytes) old) (take-length bytes);
+      }

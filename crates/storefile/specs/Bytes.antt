@@ -1,4 +1,5 @@
 -- Numbers in bytes, and bytes put into a buffer.
+use mathlib.Core.Path.{_≡_}
 use mathlib.Core.List.{List, [], _∷_, _++_}
 use Prim.Native.Nat.{ℕ, zero, suc, _+_, _*_, _/_, _%_}
 use lib.ListN.{length, take, drop}
@@ -20,3 +21,8 @@ numberAt file at k = numberOf (take k (drop at file))
 -- a buffer with some bytes put from a place on; the other bytes keep their values
 unfoldable pub placed : List ℕ → ℕ → List ℕ → List ℕ
 placed buffer at bytes = take at buffer ++ bytes ++ drop (at + length bytes) buffer
+
+-- some bytes were put from a place on, and the place after them is next
+pub record Put (old : List ℕ) (at : ℕ) (bytes new : List ℕ) (next : ℕ) : Type 0 where
+  pub after : next ≡ at + length bytes
+  pub put : new ≡ placed old at bytes

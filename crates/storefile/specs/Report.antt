@@ -6,6 +6,7 @@ use Prim.Native.Char.{code}
 use Prim.Native.String.{String, [] as none, _∷_ as _then_}
 use lib.Dec.{eqb, ltb}
 use lib.ListN.{length, drop}
+use Rattle.storefile.specs.declared.marks.Counts.{Counts}
 use Rattle.storefile.specs.declared.report.Checked.{Checked}
 
 -- the bytes of a text
@@ -40,16 +41,18 @@ line word n = word ++ spaced n ++ ascii "\n"
 unfoldable pub storeLine : ℕ → ℕ → List ℕ
 storeLine rows columns = ascii "store" ++ spaced rows ++ spaced columns ++ ascii "\n"
 
+-- the next five count marks 0 to 4
+unfoldable pub countLines : Counts → List ℕ
+countLines c =
+    line (ascii "clean") (c .clean)
+    ++ line (ascii "alone") (c .alone)
+    ++ line (ascii "trial") (c .trial)
+    ++ line (ascii "rebuilt") (c .rebuilt)
+    ++ line (ascii "faulty") (c .faulty)
+
 -- the lines above the last
 unfoldable pub linesAbove : Checked → List ℕ
-linesAbove c =
-    storeLine (c .rows) (c .columns)
-    ++ line (ascii "clean") (c .counts .clean)
-    ++ line (ascii "alone") (c .counts .alone)
-    ++ line (ascii "trial") (c .counts .trial)
-    ++ line (ascii "rebuilt") (c .counts .rebuilt)
-    ++ line (ascii "faulty") (c .counts .faulty)
-    ++ line (ascii "passes") (c .passes)
+linesAbove c = storeLine (c .rows) (c .columns) ++ countLines (c .counts) ++ line (ascii "passes") (c .passes)
 
 -- the answers with which repair hands lines and marks over: 0, 11 and 12
 unfoldable pub handsOver : ℕ → Bool

@@ -2,7 +2,7 @@
 ghost use mathlib.Core.Path.{_≡_};
 ghost use Prim.Native.Nat.{_+_, _≤_};
 ghost use lib.ListN.{length};
-ghost use Rattle.storefile.specs.Bytes.{littleEndian, numberAt, placed};
+ghost use Rattle.storefile.specs.Bytes.{littleEndian, numberAt, placed, Put};
 
 fn wide(b: u8) -> u16
     ensures { λ r. ⌜ r ≡ b ⌝ }
@@ -49,7 +49,7 @@ pub fn put_four(out: &mut [u8], at: usize, n: usize)
 // Some bytes, put from a place on; returns the place after them.
 pub fn put_bytes(out: &mut [u8], at: usize, bytes: &[u8]) -> usize
     requires { ⌜ at + length (now bytes) ≤ length (now out) ⌝ }
-    ensures { λ r. ⌜ (r ≡ at + length (now (bytes .entry))) × (now (out .exit) ≡ placed (now (out .entry)) at (now (bytes .entry))) ⌝ }
+    ensures { λ r. ⌜ Put (now (out .entry)) at (now (bytes .entry)) (now (out .exit)) r ⌝ }
 {
     let mut i = 0;
     while i < bytes.len() {
