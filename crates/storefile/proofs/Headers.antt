@@ -1,14 +1,14 @@
 -- The header as it is put into a buffer.
-use mathlib.Core.Path.{_≡_, refl, sym, ap, ap₂, _∙_}
-use mathlib.Core.Bool.{Bool, true, false, cond}
-use mathlib.Core.List.{List, [], _∷_, _++_}
+use mathlib.Core.Path.{_≡_, refl, sym, ap, _∙_}
+use mathlib.Core.Bool.{true, false}
+use mathlib.Core.List.{List, _++_}
 use Prim.Native.Nat.{ℕ, _+_, _≤_}
 use native.Mathlib.Omega.{arith}
 use borrow.Author.Tests.{eq-eqb, ne-eqb}
 use lib.ListN.{length}
 use Rattle.rectangle.specs.Refusals.{sidesFit}
 use Rattle.storefile.specs.Bytes.{littleEndian, placed}
-use Rattle.storefile.specs.Header.{headerBytes, linesPart, rowTablePart, columnTablePart, entry, header, HeaderWritten, headerRefusal, writeHeader}
+use Rattle.storefile.specs.Header.{headerBytes, linesPart, rowTablePart, columnTablePart, entry, header, headerRefusal, writeHeader}
 use Rattle.storefile.specs.declared.header.Part.{Part}
 use Rattle.storefile.proofs.Placing.{placed-then, placed-whole}
 

@@ -7,3 +7,4 @@ pub mod Openings
 pub mod Counting
 pub mod Decimal
 pub mod Writing
+pub mod Checking

@@ -1,8 +1,8 @@
 -- Opening a file, test by test.
-use mathlib.Core.Path.{_≡_, refl, sym, ap, ap₂, _∙_}
-use mathlib.Core.Bool.{Bool, true, false, cond, _&&_}
+use mathlib.Core.Path.{_≡_, sym, ap, _∙_}
+use mathlib.Core.Bool.{Bool, true, false}
 use mathlib.Core.Logic.{_⊎_, inl, inr}
-use mathlib.Core.List.{List, [], _∷_}
+use mathlib.Core.List.{List, []}
 use Prim.Native.Nat.{ℕ, _+_, _-_, _≤_, _<_}
 use native.Mathlib.Omega.{arith}
 use borrow.Author.Tests.{eq-eqb, ne-eqb, le-leb, lt-leb, leb-true}
@@ -17,7 +17,7 @@ use Rattle.storefile.specs.Header.{headerBytes, linesPart, rowTablePart,
 use Rattle.storefile.specs.Opening.{rowsIn, columnsIn, sidesWithin, entryIs, contentsFit, openRefusal, opened, body}
 use Rattle.storefile.specs.declared.header.Part.{Part}
 use Rattle.storefile.specs.declared.opening.Opened.{Opened}
-use Rattle.storefile.proofs.Sides.{sides-range}
+use Rattle.rectangle.proofs.Groups.{sides}
 
 -- ---- an entry of the contents table
 module _ (file : List ℕ) (at : ℕ) (p : Part) (x : ℕ) (is : x ≡ numberAt file at 4) where
@@ -134,8 +134,8 @@ opened-small limit file o is = go (outcome limit file o is)
     go : Outcome limit file o → (o .rows ≤ 512) × (o .columns ≤ 512)
     go (refused d e f) = (omega arith, omega arith)
     go (accepted e f g h) =
-        let range = sides-range (rowsIn file) (columnsIn file) (h .sides) in
-        (omega (arith, range .rows-most), omega (arith, range .columns-most))
+        let range = sides (rowsIn file) (columnsIn file) (h .sides) in
+        (omega (arith, range .rowsHigh), omega (arith, range .columnsHigh))
 
 -- ---- the bodies
 pub body-is : (part : ℕ → ℕ → Part) (file bytes : List ℕ) (o : Opened) (p : Part) → o ≡ opened 512 file

@@ -1,6 +1,6 @@
 -- The report as it is put into a buffer, piece after piece.
 use mathlib.Core.Path.{_≡_, refl, sym, ap, ap₂, _∙_, subst}
-use mathlib.Core.Bool.{Bool, true, false, cond}
+use mathlib.Core.Bool.{true, false}
 use mathlib.Core.List.{List, [], _∷_, _++_}
 use Prim.Native.Nat.{ℕ, suc, _+_, _/_, _%_, _^_, _≤_, _<_}
 use native.Mathlib.Nat.{zero-add}
@@ -8,9 +8,9 @@ use native.Mathlib.Omega.{arith}
 use borrow.Author.Tests.{eq-eqb, ne-eqb}
 use lib.ListN.{length, drop, set, length-append}
 use Rattle.storefile.specs.Bytes.{placed, Put}
-use Rattle.storefile.specs.Report.{ascii, digit, decimal, spaced, line, linesAbove, handsOver, reportText, reportBytes, ReportWritten, writeReport}
+use Rattle.storefile.specs.Report.{ascii, digit, decimal, line, linesAbove, handsOver, reportText, reportBytes, writeReport}
 use Rattle.storefile.specs.declared.report.Checked.{Checked}
-use Rattle.storefile.proofs.Placing.{placed-one, placed-length, placed-start, put-then}
+use Rattle.storefile.proofs.Placing.{placed-one, placed-start, put-then}
 use Rattle.storefile.proofs.Decimal.{decimal-small, decimal-more, length-decimal}
 
 -- ---- a number

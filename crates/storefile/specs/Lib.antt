@@ -1,6 +1,7 @@
--- The store file, in document 01's order: read Bytes, then Header, Opening, Marks, Report.
+-- The store file, in document 01's order: read Bytes, then Header, Opening, Marks, Report, and last Check.
 pub mod Bytes
 pub mod Header
 pub mod Opening
 pub mod Marks
 pub mod Report
+pub mod Check

@@ -2,31 +2,15 @@
 ghost use mathlib.Core.Path.{_≡_};
 ghost use Prim.Native.Nat.{_+_, _≤_};
 ghost use lib.ListN.{length};
-ghost use Rattle.rectangle.specs.Refusals.{sidesFit};
 ghost use Rattle.storefile.specs.Bytes.{placed};
 ghost use Rattle.storefile.specs.Header.{linesPart, rowTablePart, columnTablePart, entry, header, writeHeader};
 use crate::bytes;
+use rectangle::sizes;
 
 // A part of a file: its offset from the file's start and its length.
 pub struct Part {
     pub offset: usize,
     pub size: usize,
-}
-
-// Whether rows and columns lie in 2 to 512.
-pub fn sides_fit(rows: usize, columns: usize) -> bool
-    ensures { λ r. ⌜ r ≡ sidesFit rows columns ⌝ }
-{
-    if rows < 2 {
-        return false;
-    }
-    if 512 < rows {
-        return false;
-    }
-    if columns < 2 {
-        return false;
-    }
-    columns <= 512
 }
 
 // Where the lines stand.
@@ -88,7 +72,7 @@ fn put_header(out: &mut [u8], rows: usize, columns: usize)
 pub fn write_header(rows: usize, columns: usize, out: &mut [u8]) -> u32
     ensures { λ r. ⌜ record { answer = r; out = now (out .exit) } ≡ writeHeader rows columns (now (out .entry)) ⌝ }
 {
-    if !sides_fit(rows, columns) {
+    if !sizes::sides_fit(rows, columns) {
         return 2;
     }
     if out.len() != 28 {

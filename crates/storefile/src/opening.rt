@@ -7,6 +7,7 @@ ghost use Rattle.storefile.specs.Opening.{entryIs, contentsFit, opened, 
 use crate::bytes;
 use crate::header;
 use crate::header::Part;
+use rectangle::sizes;
 
 // What opening a file answers: 0 and its rows and columns, or the refusal and zeros.
 pub struct Opened {
@@ -64,7 +65,7 @@ pub fn open_within(limit: usize, file: &[u8]) -> Opened
     }
     let rows = bytes::two_bytes(file, 0) as usize;
     let columns = bytes::two_bytes(file, 2) as usize;
-    if !header::sides_fit(rows, columns) {
+    if !sizes::sides_fit(rows, columns) {
         return refused(2);
     }
     if limit < rows {
@@ -91,7 +92,7 @@ pub fn open(file: &[u8]) -> Opened
 }
 
 // A part of a file as far as the file reaches.
-fn part_of(file: &[u8], p: Part) -> &[u8]
+pub fn part_of(file: &[u8], p: Part) -> &[u8]
     ensures { λ r. ⌜ now r ≡ bytesIn (now (file .entry)) p ⌝ }
 {
     let offset = p.offset;

@@ -1,7 +1,7 @@
 -- `storefile::header::write_header` meets its contract.
 use mathlib.Core.Path.{sym, _∙_}
 use borrow.Author.Tests.{not-true, not-false}
-use Rattle.storefile.proofs.Sides.{sides-range}
+use Rattle.rectangle.proofs.Groups.{sides}
 use Rattle.storefile.proofs.Headers.{header-refused-2, header-refused-7, header-given}
 use native.Mathlib.Omega.{arith}
 use borrow.Author.Needs.{needs}
@@ -19,8 +19,8 @@ returns-2 c = header-refused-7 (c .before .before .before .before .args .rows) (
 
 put-header-requires : tie.Need-put-header-requires
 put-header-requires c κs =
-    let range = sides-range (c .before .before .before .before .before .args .rows) (c .before .before .before .before .before .args .columns) (sym (c .before .before .before .sides-fit .ensures) ∙ not-false _ (c .before .before .if1 .left)) in
-    (omega arith, (range .rows-most, range .columns-most))
+    let range = sides (c .before .before .before .before .before .args .rows) (c .before .before .before .before .before .args .columns) (sym (c .before .before .before .sides-fit .ensures) ∙ not-false _ (c .before .before .if1 .left)) in
+    (omega arith, (range .rowsHigh, range .columnsHigh))
 
 same-length : tie.Need-same-length
 same-length c = search needs

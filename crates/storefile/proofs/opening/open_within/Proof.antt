@@ -1,7 +1,7 @@
 -- `storefile::opening::open_within` meets its contract.
 use mathlib.Core.Path.{sym, _∙_}
 use borrow.Author.Tests.{not-true, not-false}
-use Rattle.storefile.proofs.Sides.{sides-range}
+use Rattle.rectangle.proofs.Groups.{sides}
 use Rattle.storefile.proofs.Openings.{too-short, sides-refused, rows-exceed, columns-exceed, contents-refused, opens}
 use borrow.Author.Needs.{needs}
 use Rattle.storefile.proofs.opening.open_within.Statement.{statement}
@@ -57,8 +57,8 @@ returns-4 c =
 
 contents-fit-requires : tie.Need-contents-fit-requires
 contents-fit-requires c κs =
-    let range = sides-range _ _ (sym (c .before .before .before .sides-fit .ensures) ∙ not-false _ (c .before .before .if2 .left)) in
-    (c .before .before .before .before .before .before .if1 .left, (range .rows-most, range .columns-most))
+    let range = sides _ _ (sym (c .before .before .before .sides-fit .ensures) ∙ not-false _ (c .before .before .if2 .left)) in
+    (c .before .before .before .before .before .before .if1 .left, (range .rowsHigh, range .columnsHigh))
 
 refused-requires-5 : tie.Need-refused-requires-5
 refused-requires-5 c κs = search needs
