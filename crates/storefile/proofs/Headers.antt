@@ -1,5 +1,6 @@
 -- The header as it is put into a buffer.
 use mathlib.Core.Path.{_≡_, refl, sym, ap, _∙_}
+use mathlib.Core.Logic.{_⊎_, inl, inr}
 use mathlib.Core.Bool.{true, false}
 use mathlib.Core.List.{List, _++_}
 use Prim.Native.Nat.{ℕ, _+_, _≤_}
@@ -7,8 +8,10 @@ use native.Mathlib.Omega.{arith}
 use borrow.Author.Tests.{eq-eqb, ne-eqb}
 use lib.ListN.{length}
 use Rattle.rectangle.specs.Refusals.{sidesFit}
+use Rattle.rectangle.proofs.Tests.{passed}
+use Rattle.rectangle.proofs.Runs.{zero-or-not}
 use Rattle.storefile.specs.Bytes.{littleEndian, placed}
-use Rattle.storefile.specs.Header.{headerBytes, linesPart, rowTablePart, columnTablePart, entry, header, headerRefusal, writeHeader}
+use Rattle.storefile.specs.Header.{headerBytes, linesPart, rowTablePart, columnTablePart, entry, header, HeaderWritten, headerRefusal, writeHeader}
 use Rattle.storefile.specs.declared.header.Part.{Part}
 use Rattle.storefile.proofs.Placing.{placed-then, placed-whole}
 
@@ -73,3 +76,26 @@ module _ (rows columns : ℕ) (out : List ℕ) where
       rw (e, eq-eqb (length out) 28 l)
       (ap (λ (b : List ℕ). record { answer = 0; out = b })
       (f ∙ placed-whole out (header rows columns) (l ∙ sym (length-header rows columns))))
+
+  header-sides : headerRefusal rows columns out ≡ 0 → sidesFit rows columns ≡ true
+  unfolding headerRefusal
+  header-sides z = passed (sidesFit rows columns) 2 _ (λ y. omega arith) z .0
+
+  header-runs : headerRefusal rows columns out ≡ 0 → writeHeader rows columns out ≡ record { answer = 0; out = header rows columns }
+  unfolding writeHeader
+  header-runs z = rw z
+
+  header-refused : (headerRefusal rows columns out ≡ 0 → ⊥)
+      → writeHeader rows columns out ≡ record { answer = headerRefusal rows columns out; out = out }
+  unfolding writeHeader
+  header-refused d = rw (ne-eqb (headerRefusal rows columns out) 0 d)
+
+  -- a header that was written is the one that rows and columns require
+  pub header-made : writeHeader rows columns out .answer ≡ 0
+      → (sidesFit rows columns ≡ true) × (writeHeader rows columns out .out ≡ header rows columns)
+  header-made = go (zero-or-not (headerRefusal rows columns out))
+    where
+      go : (headerRefusal rows columns out ≡ 0) ⊎ (headerRefusal rows columns out ≡ 0 → ⊥) → writeHeader rows columns out .answer ≡ 0
+          → (sidesFit rows columns ≡ true) × (writeHeader rows columns out .out ≡ header rows columns)
+      go (inl z) e = (header-sides z, ap (λ (w : HeaderWritten). w .out) (header-runs z))
+      go (inr d) e = absurd (d (sym (ap (λ (w : HeaderWritten). w .answer) (header-refused d)) ∙ e))

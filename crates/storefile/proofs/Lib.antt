@@ -8,3 +8,10 @@ pub mod Counting
 pub mod Decimal
 pub mod Writing
 pub mod Checking
+pub mod Marked
+pub mod Adding
+pub mod Digits
+pub mod MadeFile
+pub mod Covering
+pub mod TurnedBack
+pub mod Sample

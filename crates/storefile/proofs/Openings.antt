@@ -111,29 +111,29 @@ module _ (limit : ℕ) (file : List ℕ) where
 
 -- opening gives zeros and a refusal, or rows and columns that passed the tests
 pub data Outcome (limit : ℕ) (file : List ℕ) (o : Opened) : Type 0 where
-  refused : (o .answer ≡ 0 → ⊥) → o .rows ≡ 0 → o .columns ≡ 0 → Outcome limit file o
-  accepted : o .answer ≡ 0 → o .rows ≡ rowsIn file → o .columns ≡ columnsIn file → Opens limit file → Outcome limit file o
+  refused : (openRefusal limit file ≡ 0 → ⊥) → o ≡ record { answer = openRefusal limit file; rows = 0; columns = 0 }
+      → Outcome limit file o
+  accepted : o ≡ record { answer = 0; rows = rowsIn file; columns = columnsIn file } → Opens limit file → Outcome limit file o
 
 pub outcome : (limit : ℕ) (file : List ℕ) (o : Opened) → o ≡ opened limit file → Outcome limit file o
 outcome limit file o is = go (zero-or-not (openRefusal limit file))
   where
     go : (openRefusal limit file ≡ 0) ⊎ (openRefusal limit file ≡ 0 → ⊥) → Outcome limit file o
-    go (inl e) =
-        let f = is ∙ opened-accepted limit file e in
-        accepted (ap (λ (x : Opened). x .answer) f) (ap (λ (x : Opened). x .rows) f) (ap (λ (x : Opened). x .columns) f)
-        (refusal-none limit file e)
-    go (inr d) =
-        let f = is ∙ opened-refused limit file d in
-        refused (λ z. d (sym (ap (λ (x : Opened). x .answer) f) ∙ z)) (ap (λ (x : Opened). x .rows) f)
-        (ap (λ (x : Opened). x .columns) f)
+    go (inl e) = accepted (is ∙ opened-accepted limit file e) (refusal-none limit file e)
+    go (inr d) = refused d (is ∙ opened-refused limit file d)
 
 -- rows and columns are small either way
 pub opened-small : (limit : ℕ) (file : List ℕ) (o : Opened) → o ≡ opened limit file → (o .rows ≤ 512) × (o .columns ≤ 512)
 opened-small limit file o is = go (outcome limit file o is)
   where
     go : Outcome limit file o → (o .rows ≤ 512) × (o .columns ≤ 512)
-    go (refused d e f) = (omega arith, omega arith)
-    go (accepted e f g h) =
+    go (refused d e) =
+        let r = ap (λ (x : Opened). x .rows) e in
+        let c = ap (λ (x : Opened). x .columns) e in
+        (omega arith, omega arith)
+    go (accepted e h) =
+        let r = ap (λ (x : Opened). x .rows) e in
+        let c = ap (λ (x : Opened). x .columns) e in
         let range = sides (rowsIn file) (columnsIn file) (h .sides) in
         (omega (arith, range .rowsHigh), omega (arith, range .columnsHigh))
 
