@@ -1,0 +1,120 @@
+-- Every mark that repair gives is one of 0 to 4, and there is one for each line.
+use mathlib.Core.Path.{_≡_, _∙_}
+use mathlib.Core.Bool.{Bool, true, false, cond}
+use mathlib.Core.List.{List, [], _∷_}
+use Prim.Native.Nat.{ℕ, zero, suc, _≤_, _<_}
+use native.Mathlib.Omega.{arith}
+use lib.ListN.{length, getD, set, length-map}
+use Rattle.gf2.specs.Word.{Word, flip}
+use Rattle.linecode.specs.Code.{accepted, syndrome, answerTo}
+use Rattle.linecode.specs.Reading.{afterFlip, corrected, firstLook, readAlone}
+use Rattle.linecode.specs.declared.hamming.Answer.{Answer}
+use Rattle.linecode.specs.declared.hamming.Answer.the-variants.{None, Hamming, Protected}
+use Rattle.scheme.specs.Layer.{Cell, Reading, readLine}
+use Rattle.scheme.specs.Visit.{Group, State, cellAt, isFaulty, faultyOf, rebuild, rebuildOnly, settle, mismatch, tryPlaces, tryLines, triable, trial, visit}
+use Rattle.scheme.specs.Repair.{readAll, pass, passesFrom, repair, marksOf}
+use Rattle.scheme.proofs.Grows.{grows-length}
+use Rattle.scheme.proofs.Passes.{by-rounds, passes-grow}
+use Rattle.scheme.proofs.Stays.{readAll-length}
+use Rattle.rectangle.specs.Store.{lineLayer, readUnder}
+
+-- ---- reading alone gives 0, 1 or 4
+module _ (w : Word) where
+  flip-mark : (b : Bool) (flipped : Word) → afterFlip b flipped w .mark ≤ 4
+  flip-mark true flipped = omega arith
+  flip-mark false flipped = omega arith
+
+  corrected-mark : (a : Answer) → corrected a w .mark ≤ 4
+  corrected-mark None = omega arith
+  corrected-mark (Hamming k) = omega arith
+  corrected-mark (Protected i) = flip-mark (accepted (flip i w)) (flip i w)
+
+  look-mark : (b : Bool) → firstLook b w .mark ≤ 4
+  look-mark true = omega arith
+  look-mark false = corrected-mark (answerTo (syndrome w))
+
+pub read-mark : (n : ℕ) (found : Word) → readLine lineLayer n found .mark ≤ 4
+unfolding readUnder readAlone
+read-mark n found = look-mark found (accepted found)
+
+-- ---- every mark of a store is one of 0 to 4
+abbrev Marked : State → Type 0
+Marked [] = Unit {0}
+Marked (c ∷ s) = (c .mark ≤ 4) × Marked s
+
+marked-at : (s : State) (n : ℕ) → Marked s → cellAt s n .mark ≤ 4
+marked-at [] n h = omega arith
+marked-at (c ∷ s) zero h = h .0
+marked-at (c ∷ s) (suc n) h = marked-at s n (h .1)
+
+marked-set : (s : State) (n : ℕ) (c : Cell) → Marked s → c .mark ≤ 4 → Marked (set s n c)
+marked-set [] n c h k = tt
+marked-set (d ∷ s) zero c h k = (k, h .1)
+marked-set (d ∷ s) (suc n) c h k = (h .0, marked-set s n c (h .1) k)
+
+marked-settle : (g : Group) (s : State) → Marked s → Marked (settle g s)
+unfolding settle rebuild
+marked-settle g s h = go (faultyOf s (g .members))
+  where
+    go : (ns : List ℕ) → Marked (rebuildOnly g s ns)
+    go [] = h
+    go (n ∷ []) = marked-set s n _ h (omega arith)
+    go (n ∷ m ∷ ns) = h
+
+module _ (read : Reading) (gives : (n : ℕ) (found : Word) → read n found .mark ≤ 4) where
+  marked-search : (n : ℕ) (c : Cell) (ps : List ℕ) → c .mark ≤ 4 → tryPlaces read n c ps .mark ≤ 4
+  marked-search n c [] h = h
+  marked-search n c (p ∷ ps) h = go (isFaulty (read n (flip p (c .line)))) (marked-search n c ps h)
+    where
+      go : (b : Bool) → tryPlaces read n c ps .mark ≤ 4
+          → cond b (tryPlaces read n c ps) (record { line = read n (flip p (c .line)) .line; mark = 2 }) .mark ≤ 4
+      go true k = k
+      go false k = omega arith
+
+  marked-lines : (ps : List ℕ) (s : State) (ns : List ℕ) → Marked s → Marked (tryLines read ps s ns)
+  marked-lines ps s [] h = h
+  marked-lines ps s (n ∷ ns) h = marked-lines ps _ ns (marked-set s n _ h (go (isFaulty (cellAt s n))))
+    where
+      go : (b : Bool) → cond b (tryPlaces read n (cellAt s n) ps) (cellAt s n) .mark ≤ 4
+      go true = marked-search n (cellAt s n) ps (marked-at s n h)
+      go false = marked-at s n h
+
+  marked-trial : (g : Group) (s : State) → Marked s → Marked (trial read g s)
+  unfolding trial
+  marked-trial g s h = go (triable g s)
+    where
+      go : (b : Bool) → Marked (cond b (tryLines read (mismatch g s) s (g .members)) s)
+      go true = marked-lines (mismatch g s) s (g .members) h
+      go false = h
+
+  marked-pass : (gs : List Group) (s : State) → Marked s → Marked (pass read gs s)
+  unfolding visit
+  marked-pass [] s h = h
+  marked-pass (g ∷ gs) s h = marked-pass gs _ (marked-settle g (trial read g s) (marked-trial g s h))
+
+  marked-reading : (n : ℕ) (found : List Word) → Marked (readAll read n found)
+  marked-reading n [] = tt
+  marked-reading n (w ∷ found) = (gives n w, marked-reading (suc n) found)
+
+  marked-repair : (gs : List Group) (found : List Word) → Marked (repair read gs found .cells)
+  unfolding repair
+  marked-repair gs found =
+      by-rounds read gs (λ s r. Marked s → Marked (r .cells)) (λ s e h. h) (λ s e i h. marked-pass gs s h)
+      (λ s later e i h. i (marked-pass gs s h)) (readAll read 0 found) (marked-reading 0 found)
+
+  marks-small : (s : State) → Marked s → (n : ℕ) → n < length (marksOf s) → getD (marksOf s) n 0 ≤ 4
+  marks-small [] h n i = omega arith
+  marks-small (c ∷ s) h zero i = h .0
+  marks-small (c ∷ s) h (suc n) i = marks-small s (h .1) n (omega arith)
+
+  pub repaired-marks : (gs : List Group) (found : List Word) (n : ℕ) → n < length (marksOf (repair read gs found .cells))
+      → getD (marksOf (repair read gs found .cells)) n 0 ≤ 4
+  repaired-marks gs found = marks-small (repair read gs found .cells) (marked-repair gs found)
+
+pub repaired-count : (read : Reading) (gs : List Group) (found : List Word)
+    → length (marksOf (repair read gs found .cells)) ≡ length found
+unfolding repair
+repaired-count read gs found =
+    length-map (passesFrom read gs (readAll read 0 found) .cells) (λ c. c .mark)
+    ∙ grows-length (passes-grow read gs (readAll read 0 found))
+    ∙ readAll-length read 0 found

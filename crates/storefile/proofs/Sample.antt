@@ -1,0 +1,42 @@
+-- Document 01's sample report follows by computation from the definitions.
+use mathlib.Core.Path.{_≡_, refl, ap₂}
+use mathlib.Core.Bool.{Bool, true, false, _&&_}
+use mathlib.Core.List.{List, [], _∷_}
+use Prim.Native.Nat.{ℕ}
+use borrow.Author.Tests.{eqb-true}
+use lib.Dec.{T, eqb}
+use Rattle.gf2.specs.Generator.{generator, generatorPolynomial}
+use Rattle.linecode.specs.Places.{dataPlaces, protectedPlaces, hammingPlaces, linePlaces, lineBytes, places, lineOf}
+use Rattle.linecode.specs.Code.{protected, dataOf, accepted, hammingColumns, positions, hamming, withCrc, withHamming, codeword, isCorrect, columns, syndrome, naming, answerTo}
+use Rattle.linecode.specs.Reading.{readAlone}
+use Rattle.scheme.specs.Repair.{passesFrom, repair, answer}
+use Rattle.rectangle.specs.Store.{readUnder, correctUnder, bytesAt, placesAt, linesIn, row, column, groups}
+use Rattle.rectangle.specs.Refusals.{sideFits, sidesFit, holds, tablesFit, parityCorrect, repairRefusal}
+use Rattle.rectangle.specs.Repair.{repaired, handedOver, repairStore}
+use Rattle.storefile.specs.Bytes.{numberAt}
+use Rattle.storefile.specs.Header.{headerBytes, linesPart, rowTablePart, columnTablePart, fileLength, entry, header, bytesIn}
+use Rattle.storefile.specs.Opening.{rowsIn, columnsIn, sidesWithin, entryIs, contentsFit, openRefusal, opened}
+use Rattle.storefile.specs.Marks.{countOf, countsOf, noCounts}
+use Rattle.storefile.specs.Report.{decimal, spaced, line, storeLine, countLines, linesAbove, handsOver, reportText}
+use Rattle.storefile.specs.Check.{refusedWith, repairOpened, counted, checkStore}
+use Rattle.storefile.specs.Promises.{ZeroStoreReport}
+
+abbrev sameBytes : List ℕ → List ℕ → Bool
+sameBytes [] [] = true
+sameBytes [] (b ∷ y) = false
+sameBytes (a ∷ x) [] = false
+sameBytes (a ∷ x) (b ∷ y) = eqb a b && sameBytes x y
+
+same-bytes : (x y : List ℕ) → T (sameBytes x y) → x ≡ y
+same-bytes [] [] t = refl
+same-bytes [] (b ∷ y) t = absurd t
+same-bytes (a ∷ x) [] t = absurd t
+same-bytes (a ∷ x) (b ∷ y) t = go (eqb a b) refl t (same-bytes x y)
+  where
+    go : (c : Bool) → eqb a b ≡ c → T (c && sameBytes x y) → (T (sameBytes x y) → x ≡ y) → (a ∷ x) ≡ (b ∷ y)
+    go true e t rest = ap₂ (λ (h : ℕ) (l : List ℕ). h ∷ l) (eqb-true a b e) (rest t)
+    go false e t rest = absurd t
+
+pub zero-store-report : ZeroStoreReport
+unfolding generator generatorPolynomial dataPlaces protectedPlaces hammingPlaces linePlaces lineBytes places lineOf protected dataOf accepted hammingColumns positions hamming withCrc withHamming codeword isCorrect columns syndrome naming answerTo readAlone passesFrom repair answer readUnder correctUnder bytesAt placesAt linesIn row column groups sideFits sidesFit holds tablesFit parityCorrect repairRefusal repaired handedOver repairStore numberAt headerBytes linesPart rowTablePart columnTablePart fileLength entry header bytesIn rowsIn columnsIn sidesWithin entryIs contentsFit openRefusal opened countOf countsOf noCounts decimal spaced line storeLine countLines linesAbove handsOver reportText refusedWith repairOpened counted checkStore
+zero-store-report = same-bytes _ _ tt

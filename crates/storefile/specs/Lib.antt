@@ -1,0 +1,8 @@
+-- The store file, in document 01's order: read Bytes, then Header, Opening, Marks, Report, Check, and last Promises.
+pub mod Bytes
+pub mod Header
+pub mod Opening
+pub mod Marks
+pub mod Report
+pub mod Check
+pub mod Promises

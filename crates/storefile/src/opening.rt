@@ -1,0 +1,132 @@
+// Opening a file of any bytes and any length, and its bodies as parts of it.
+ghost use mathlib.Core.Path.{_≡_};
+ghost use Prim.Native.Nat.{_+_, _≤_};
+ghost use lib.ListN.{length};
+ghost use Rattle.storefile.specs.Header.{linesPart, rowTablePart, columnTablePart, bytesIn};
+ghost use Rattle.storefile.specs.Opening.{entryIs, contentsFit, opened, body};
+use crate::bytes;
+use crate::header;
+use crate::header::Part;
+use rectangle::sizes;
+
+// What opening a file answers: 0 and its rows and columns, or the refusal and zeros.
+pub struct Opened {
+    pub answer: u32,
+    pub rows: usize,
+    pub columns: usize,
+}
+
+// Whether the entry of the contents table that starts at a place is that of a part.
+fn entry_is(file: &[u8], at: usize, p: Part) -> bool
+    requires { ⌜ at + 8 ≤ length (now file) ⌝ }
+    ensures { λ r. ⌜ r ≡ entryIs (now (file .entry)) at p ⌝ }
+{
+    if bytes::four_bytes(file, at) as usize != p.offset {
+        return false;
+    }
+    bytes::four_bytes(file, at + 4) as usize == p.size
+}
+
+// Whether the contents table and the file's length are those that rows and columns require.
+fn contents_fit(file: &[u8], rows: usize, columns: usize) -> bool
+    requires long { ⌜ 28 ≤ length (now file) ⌝ }
+    requires small { ⌜ (rows ≤ 512) × (columns ≤ 512) ⌝ }
+    ensures { λ r. ⌜ r ≡ contentsFit (now (file .entry)) rows columns ⌝ }
+{
+    if !entry_is(file, 4, header::lines_part(rows, columns)) {
+        return false;
+    }
+    if !entry_is(file, 12, header::row_table_part(rows, columns)) {
+        return false;
+    }
+    let last = header::column_table_part(rows, columns);
+    if !entry_is(file, 20, last) {
+        return false;
+    }
+    file.len() == last.offset + last.size
+}
+
+fn refused(answer: u32) -> Opened
+    ensures { λ r. ⌜ r ≡ record { answer = answer; rows = 0; columns = 0 } ⌝ }
+{
+    Opened {
+        answer,
+        rows: 0,
+        columns: 0,
+    }
+}
+
+// A file opened, its rows and columns at most a limit.
+pub fn open_within(limit: usize, file: &[u8]) -> Opened
+    ensures { λ r. ⌜ r ≡ opened limit (now (file .entry)) ⌝ }
+{
+    if file.len() < 28 {
+        return refused(1);
+    }
+    let rows = bytes::two_bytes(file, 0) as usize;
+    let columns = bytes::two_bytes(file, 2) as usize;
+    if !sizes::sides_fit(rows, columns) {
+        return refused(2);
+    }
+    if limit < rows {
+        return refused(3);
+    }
+    if limit < columns {
+        return refused(3);
+    }
+    if !contents_fit(file, rows, columns) {
+        return refused(4);
+    }
+    Opened {
+        answer: 0,
+        rows,
+        columns,
+    }
+}
+
+// A file opened.
+pub fn open(file: &[u8]) -> Opened
+    ensures { λ r. ⌜ r ≡ opened 512 (now (file .entry)) ⌝ }
+{
+    open_within(512, file)
+}
+
+// A part of a file as far as the file reaches.
+pub fn part_of(file: &[u8], p: Part) -> &[u8]
+    ensures { λ r. ⌜ now r ≡ bytesIn (now (file .entry)) p ⌝ }
+{
+    let offset = p.offset;
+    let size = p.size;
+    if file.len() < offset {
+        return &file[..0];
+    }
+    let rest = &file[offset..];
+    if rest.len() < size {
+        return rest;
+    }
+    &rest[..size]
+}
+
+// The lines of a file that opens, and nothing of another.
+pub fn lines(file: &[u8]) -> &[u8]
+    ensures { λ r. ⌜ now r ≡ body linesPart (now (file .entry)) ⌝ }
+{
+    let o = open(file);
+    part_of(file, header::lines_part(o.rows, o.columns))
+}
+
+// The row table of a file that opens, and nothing of another.
+pub fn row_table(file: &[u8]) -> &[u8]
+    ensures { λ r. ⌜ now r ≡ body rowTablePart (now (file .entry)) ⌝ }
+{
+    let o = open(file);
+    part_of(file, header::row_table_part(o.rows, o.columns))
+}
+
+// The column table of a file that opens, and nothing of another.
+pub fn column_table(file: &[u8]) -> &[u8]
+    ensures { λ r. ⌜ now r ≡ body columnTablePart (now (file .entry)) ⌝ }
+{
+    let o = open(file);
+    part_of(file, header::column_table_part(o.rows, o.columns))
+}
