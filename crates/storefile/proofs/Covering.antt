@@ -9,7 +9,7 @@ use lib.ListN.{length, take, drop, length-drop, take-append-drop}
 use lib.Seq.{take-all, drop-drop, length-take-le}
 use Rattle.linecode.specs.Places.{lineBytes}
 use Rattle.storefile.specs.Header.{headerBytes, linesPart, rowTablePart, columnTablePart, fileLength, header, bytesIn}
-use Rattle.storefile.specs.Opening.{rowsIn, columnsIn, entryIs, contentsFit, opened, body}
+use Rattle.storefile.specs.Opening.{rowsIn, columnsIn, entriesFit, contentsFit, opened, body}
 use Rattle.storefile.specs.Promises.{BodiesCover, OpenedFileCovered, NoBodies, RefusedFileEmpty}
 use Rattle.storefile.specs.declared.header.Part.{Part}
 use Rattle.storefile.specs.declared.opening.Opened.{Opened}
@@ -41,10 +41,7 @@ module _ (file : List ℕ) (o : Opens 512 file)
   file-bytes : length file ≡ 28 + L + R + C
   unfolding L R C contentsFit fileLength columnTablePart rowTablePart linesPart headerBytes
   file-bytes =
-      let lines = and-eq-true-iff (entryIs file 4 _) _ .0 (o .contents) in
-      let rows = and-eq-true-iff (entryIs file 12 _) _ .0 (lines .1) in
-      let columns = and-eq-true-iff (entryIs file 20 _) _ .0 (rows .1) in
-      eqb-true (length file) _ (columns .1)
+      eqb-true (length file) _ (and-eq-true-iff (entriesFit file (rowsIn file) (columnsIn file)) _ .0 (o .contents) .1)
 
   lines-at : body linesPart file ≡ take L (drop 28 file)
   unfolding L bytesIn linesPart headerBytes

@@ -12,6 +12,7 @@ pub mod Marked
 pub mod Adding
 pub mod Digits
 pub mod MadeFile
+pub mod Needed
 pub mod Covering
 pub mod TurnedBack
 pub mod Sample

@@ -12,7 +12,7 @@ use Rattle.rectangle.specs.Refusals.{sidesFit}
 use Rattle.rectangle.proofs.Groups.{sides}
 use Rattle.storefile.specs.Bytes.{littleEndian, numberOf, numberAt}
 use Rattle.storefile.specs.Header.{headerBytes, linesPart, rowTablePart, columnTablePart, fileLength, entry, header, bytesIn}
-use Rattle.storefile.specs.Opening.{entryIs, contentsFit, opened, body}
+use Rattle.storefile.specs.Opening.{entryIs, entriesFit, contentsFit, opened, body}
 use Rattle.storefile.specs.Promises.{FileRead, WrittenFileOpens}
 use Rattle.storefile.specs.declared.header.Part.{Part}
 use Rattle.storefile.specs.declared.opening.Opened.{Opened}
@@ -31,7 +31,7 @@ part-between a b c p e f =
     ∙ take-at b c (p .size) f
 
 -- a number that lies in the first bytes
-number-in-front : (h rest : List ℕ) (at k : ℕ) → at + k ≤ length h → numberAt (h ++ rest) at k ≡ numberOf (take k (drop at h))
+pub number-in-front : (h rest : List ℕ) (at k : ℕ) → at + k ≤ length h → numberAt (h ++ rest) at k ≡ numberOf (take k (drop at h))
 unfolding numberAt
 number-in-front h rest at k i =
     ap (λ (l : List ℕ). numberOf (take k l)) (drop-append-le at h rest (omega arith))
@@ -87,7 +87,7 @@ module _ (rows columns : ℕ) (high : rows ≤ 512) (wide : columns ≤ 512) (re
       (there 24 4 (columns * 70) (omega arith) (omega arith) refl)
 
   contents-written : length file ≡ fileLength rows columns → contentsFit file rows columns ≡ true
-  unfolding contentsFit
+  unfolding contentsFit entriesFit
   contents-written e = rw (lines-entry, row-table-entry, column-table-entry) (eq-eqb (length file) (fileLength rows columns) e)
 
 -- ---- "what the header writer writes, opening accepts with the same rows and columns"

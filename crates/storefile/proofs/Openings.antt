@@ -14,7 +14,7 @@ use Rattle.rectangle.proofs.Tests.{passed}
 use Rattle.rectangle.proofs.Runs.{zero-or-not}
 use Rattle.storefile.specs.Bytes.{numberAt}
 use Rattle.storefile.specs.Header.{headerBytes, linesPart, rowTablePart, columnTablePart, fileLength, bytesIn}
-use Rattle.storefile.specs.Opening.{rowsIn, columnsIn, sidesWithin, entryIs, contentsFit, openRefusal, opened, body}
+use Rattle.storefile.specs.Opening.{rowsIn, columnsIn, sidesWithin, entryIs, entriesFit, contentsFit, openRefusal, opened, body}
 use Rattle.storefile.specs.declared.header.Part.{Part}
 use Rattle.storefile.specs.declared.opening.Opened.{Opened}
 use Rattle.rectangle.proofs.Groups.{sides}
@@ -32,23 +32,29 @@ module _ (file : List ℕ) (at : ℕ) (p : Part) (x : ℕ) (is : x ≡ numberAt 
 -- ---- the contents table
 module _ (file : List ℕ) (rows columns : ℕ) where
   module _ (p : Part) (ep : p ≡ linesPart rows columns) (a : Bool) (ea : a ≡ entryIs file 4 p) where
-    pub lines-elsewhere : a ≡ false → false ≡ contentsFit file rows columns
-    unfolding contentsFit
+    pub lines-elsewhere : a ≡ false → false ≡ entriesFit file rows columns
+    unfolding entriesFit
     lines-elsewhere e = rw (← ep, ← ea, e)
 
     module _ (at : a ≡ true) (q : Part) (eq : q ≡ rowTablePart rows columns) (b : Bool) (eb : b ≡ entryIs file 12 q) where
-      pub rows-elsewhere : b ≡ false → false ≡ contentsFit file rows columns
-      unfolding contentsFit
+      pub rows-elsewhere : b ≡ false → false ≡ entriesFit file rows columns
+      unfolding entriesFit
       rows-elsewhere e = rw (← ep, ← ea, at, ← eq, ← eb, e)
 
-      module _ (bt : b ≡ true) (r : Part) (er : r ≡ columnTablePart rows columns) (d : Bool) (ed : d ≡ entryIs file 20 r) where
-        pub columns-elsewhere : d ≡ false → false ≡ contentsFit file rows columns
-        unfolding contentsFit
-        columns-elsewhere e = rw (← ep, ← ea, at, ← eq, ← eb, bt, ← er, ← ed, e)
+      pub columns-last : b ≡ true → (r : Part) → r ≡ columnTablePart rows columns → (d : Bool) → d ≡ entryIs file 20 r
+          → d ≡ entriesFit file rows columns
+      unfolding entriesFit
+      columns-last bt r er d ed = rw (← ep, ← ea, at, ← eq, ← eb, bt, ← er) ed
 
-        pub contents-there : d ≡ true → eqb (length file) (r .offset + r .size) ≡ contentsFit file rows columns
-        unfolding contentsFit fileLength
-        contents-there e = rw (← ep, ← ea, at, ← eq, ← eb, bt, ← er, ← ed, e)
+  module _ (fit : Bool) (ef : fit ≡ entriesFit file rows columns) where
+    pub entries-elsewhere : fit ≡ false → false ≡ contentsFit file rows columns
+    unfolding contentsFit
+    entries-elsewhere e = rw (← ef, e)
+
+    pub contents-there : fit ≡ true → (r : Part) → r ≡ columnTablePart rows columns
+        → eqb (length file) (r .offset + r .size) ≡ contentsFit file rows columns
+    unfolding contentsFit fileLength
+    contents-there e r er = rw (← ef, e, ← er)
 
 -- ---- the tests of opening, in their order
 module _ (limit : ℕ) (file : List ℕ) where

@@ -15,7 +15,7 @@ use Rattle.rectangle.specs.Refusals.{sideFits, sidesFit, holds, tablesFit, pari
 use Rattle.rectangle.specs.Repair.{repaired, handedOver, repairStore}
 use Rattle.storefile.specs.Bytes.{numberAt}
 use Rattle.storefile.specs.Header.{headerBytes, linesPart, rowTablePart, columnTablePart, fileLength, entry, header, bytesIn}
-use Rattle.storefile.specs.Opening.{rowsIn, columnsIn, sidesWithin, entryIs, contentsFit, openRefusal, opened}
+use Rattle.storefile.specs.Opening.{rowsIn, columnsIn, sidesWithin, entryIs, entriesFit, contentsFit, openRefusal, opened}
 use Rattle.storefile.specs.Marks.{countOf, countsOf, noCounts}
 use Rattle.storefile.specs.Report.{decimal, spaced, line, storeLine, countLines, linesAbove, handsOver, reportText}
 use Rattle.storefile.specs.Check.{refusedWith, repairOpened, counted, checkStore}
@@ -38,5 +38,5 @@ same-bytes (a ∷ x) (b ∷ y) t = go (eqb a b) refl t (same-bytes x y)
     go false e t rest = absurd t
 
 pub zero-store-report : ZeroStoreReport
-unfolding generator generatorPolynomial dataPlaces protectedPlaces hammingPlaces linePlaces lineBytes places lineOf protected dataOf accepted hammingColumns positions hamming withCrc withHamming codeword isCorrect columns syndrome naming answerTo readAlone passesFrom repair answer readUnder correctUnder bytesAt placesAt linesIn row column groups sideFits sidesFit holds tablesFit parityCorrect repairRefusal repaired handedOver repairStore numberAt headerBytes linesPart rowTablePart columnTablePart fileLength entry header bytesIn rowsIn columnsIn sidesWithin entryIs contentsFit openRefusal opened countOf countsOf noCounts decimal spaced line storeLine countLines linesAbove handsOver reportText refusedWith repairOpened counted checkStore
+unfolding generator generatorPolynomial dataPlaces protectedPlaces hammingPlaces linePlaces lineBytes places lineOf protected dataOf accepted hammingColumns positions hamming withCrc withHamming codeword isCorrect columns syndrome naming answerTo readAlone passesFrom repair answer readUnder correctUnder bytesAt placesAt linesIn row column groups sideFits sidesFit holds tablesFit parityCorrect repairRefusal repaired handedOver repairStore numberAt headerBytes linesPart rowTablePart columnTablePart fileLength entry header bytesIn rowsIn columnsIn sidesWithin entryIs entriesFit contentsFit openRefusal opened countOf countsOf noCounts decimal spaced line storeLine countLines linesAbove handsOver reportText refusedWith repairOpened counted checkStore
 zero-store-report = same-bytes _ _ tt

@@ -3,8 +3,6 @@ use mathlib.Core.Path.{_≡_, ap}
 use Prim.Native.Nat.{ℕ, _+_, _*_, _≤_}
 use native.Mathlib.Nat.{mul-le-mul}
 use native.Mathlib.Omega.{arith}
-use mir.Syntax.{w64}
-use mir.Val.{Fits}
 use Rattle.linecode.specs.Places.{lineBytes}
 use Rattle.storefile.specs.Header.{headerBytes, linesPart, rowTablePart, columnTablePart}
 use Rattle.storefile.specs.declared.header.Part.{Part}
@@ -14,10 +12,10 @@ pub few-lines : (rows columns : ℕ) → rows ≤ 512 → columns ≤ 512 → ro
 few-lines rows columns h k = mul-le-mul h k
 
 -- the last body's end is a small number
-pub part-fits : (rows columns : ℕ) → rows ≤ 512 → columns ≤ 512 → (p : Part) → p ≡ columnTablePart rows columns
-    → Fits w64 (p .offset + p .size)
+pub end-small : (rows columns : ℕ) → rows ≤ 512 → columns ≤ 512 → (p : Part) → p ≡ columnTablePart rows columns
+    → p .offset + p .size ≤ 20000000
 unfolding columnTablePart rowTablePart linesPart headerBytes lineBytes
-part-fits rows columns h k p e =
+end-small rows columns h k p e =
     let lines = few-lines rows columns h k in
     let at = ap (λ (q : Part). q .offset) e in
     let long = ap (λ (q : Part). q .size) e in

@@ -1,7 +1,7 @@
 -- Document 01, "Store file" and "Turned back": opening a file of any bytes and any length.
 use mathlib.Core.Bool.{Bool, cond, _&&_}
 use mathlib.Core.List.{List}
-use Prim.Native.Nat.{ℕ, _+_}
+use Prim.Native.Nat.{ℕ, suc, _+_}
 use lib.Dec.{eqb, leb}
 use lib.ListN.{length}
 use Rattle.rectangle.specs.Refusals.{unless, sidesFit}
@@ -25,13 +25,16 @@ sidesWithin limit rows columns = leb rows limit && leb columns limit
 unfoldable pub entryIs : List ℕ → ℕ → Part → Bool
 entryIs file at p = eqb (numberAt file at 4) (p .offset) && eqb (numberAt file (at + 4) 4) (p .size)
 
--- 4: the contents table and the file's length are those that rows and columns require
-unfoldable pub contentsFit : List ℕ → ℕ → ℕ → Bool
-contentsFit file rows columns =
+-- the contents table is the one that rows and columns require
+unfoldable pub entriesFit : List ℕ → ℕ → ℕ → Bool
+entriesFit file rows columns =
     entryIs file 4 (linesPart rows columns)
     && (entryIs file 12 (rowTablePart rows columns)
-    && (entryIs file 20 (columnTablePart rows columns)
-    && eqb (length file) (fileLength rows columns)))
+    && entryIs file 20 (columnTablePart rows columns))
+
+-- 4: the contents table and the file's length are those that rows and columns require
+unfoldable pub contentsFit : List ℕ → ℕ → ℕ → Bool
+contentsFit file rows columns = entriesFit file rows columns && eqb (length file) (fileLength rows columns)
 
 -- the first refusal of the list that fits, or 0
 unfoldable pub openRefusal : ℕ → List ℕ → ℕ
@@ -52,3 +55,11 @@ opened limit file =
 -- a body of a file that opens, as a part of the file; on refusal rows and columns are 0, and so is its length
 unfoldable pub body : (ℕ → ℕ → Part) → List ℕ → List ℕ
 body part file = bytesIn file (part (opened 512 file .rows) (opened 512 file .columns))
+
+-- how many bytes a reader needs that has the header: no more, unless the length alone is wrong; then one more than the length
+-- required, to see that nothing follows
+unfoldable pub bytesNeeded : ℕ → List ℕ → ℕ
+bytesNeeded limit start =
+    cond (eqb (openRefusal limit start) 4 && entriesFit start (rowsIn start) (columnsIn start))
+    (suc (fileLength (rowsIn start) (columnsIn start)))
+    headerBytes

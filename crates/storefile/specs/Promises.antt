@@ -6,7 +6,7 @@ use Prim.Native.Nat.{ℕ, _+_, _-_, _*_, _≤_, _<_}
 use lib.ListN.{length, take, getD, replicate}
 use Rattle.linecode.specs.Places.{lineBytes}
 use Rattle.storefile.specs.Header.{headerBytes, linesPart, rowTablePart, columnTablePart, header, writeHeader}
-use Rattle.storefile.specs.Opening.{rowsIn, columnsIn, opened, body}
+use Rattle.storefile.specs.Opening.{rowsIn, columnsIn, opened, body, bytesNeeded}
 use Rattle.storefile.specs.Marks.{countsOf}
 use Rattle.storefile.specs.Report.{ascii, decimal, handsOver, reportText}
 use Rattle.storefile.specs.Check.{refusedWith, checkStore}
@@ -49,6 +49,12 @@ pub record NoBodies (file : List ℕ) : Type 0 where
 
 abbrev pub RefusedFileEmpty : Type 0
 RefusedFileEmpty = (file : List ℕ) → (opened 512 file .answer ≡ 0 → ⊥) → NoBodies file
+
+-- ---- a reader that stops after the bytes it needs gives the same answer: those that follow change nothing
+abbrev pub MoreChangesNothing : Type 0
+MoreChangesNothing =
+    (limit : ℕ) (file out marks : List ℕ)
+    → checkStore limit (take (bytesNeeded limit (take headerBytes file)) file) out marks ≡ checkStore limit file out marks
 
 -- ---- "3. In the program only"
 abbrev pub ThreeInTheProgramOnly : Type 0

@@ -3,7 +3,7 @@ ghost use mathlib.Core.Path.{_≡_};
 ghost use Prim.Native.Nat.{_+_, _≤_};
 ghost use lib.ListN.{length};
 ghost use Rattle.storefile.specs.Header.{linesPart, rowTablePart, columnTablePart, bytesIn};
-ghost use Rattle.storefile.specs.Opening.{entryIs, contentsFit, opened, body};
+ghost use Rattle.storefile.specs.Opening.{entryIs, entriesFit, contentsFit, opened, body, bytesNeeded};
 use crate::bytes;
 use crate::header;
 use crate::header::Part;
@@ -27,11 +27,11 @@ fn entry_is(file: &[u8], at: usize, p: Part) -> bool
     bytes::four_bytes(file, at + 4) as usize == p.size
 }
 
-// Whether the contents table and the file's length are those that rows and columns require.
-fn contents_fit(file: &[u8], rows: usize, columns: usize) -> bool
+// Whether the contents table is the one that rows and columns require.
+fn entries_fit(file: &[u8], rows: usize, columns: usize) -> bool
     requires long { ⌜ 28 ≤ length (now file) ⌝ }
     requires small { ⌜ (rows ≤ 512) × (columns ≤ 512) ⌝ }
-    ensures { λ r. ⌜ r ≡ contentsFit (now (file .entry)) rows columns ⌝ }
+    ensures { λ r. ⌜ r ≡ entriesFit (now (file .entry)) rows columns ⌝ }
 {
     if !entry_is(file, 4, header::lines_part(rows, columns)) {
         return false;
@@ -39,10 +39,19 @@ fn contents_fit(file: &[u8], rows: usize, columns: usize) -> bool
     if !entry_is(file, 12, header::row_table_part(rows, columns)) {
         return false;
     }
-    let last = header::column_table_part(rows, columns);
-    if !entry_is(file, 20, last) {
+    entry_is(file, 20, header::column_table_part(rows, columns))
+}
+
+// Whether the contents table and the file's length are those that rows and columns require.
+fn contents_fit(file: &[u8], rows: usize, columns: usize) -> bool
+    requires long { ⌜ 28 ≤ length (now file) ⌝ }
+    requires small { ⌜ (rows ≤ 512) × (columns ≤ 512) ⌝ }
+    ensures { λ r. ⌜ r ≡ contentsFit (now (file .entry)) rows columns ⌝ }
+{
+    if !entries_fit(file, rows, columns) {
         return false;
     }
+    let last = header::column_table_part(rows, columns);
     file.len() == last.offset + last.size
 }
 
@@ -89,6 +98,23 @@ pub fn open(file: &[u8]) -> Opened
     ensures { λ r. ⌜ r ≡ opened 512 (now (file .entry)) ⌝ }
 {
     open_within(512, file)
+}
+
+// How many bytes a reader needs that has the first 28: no more of a file that these refuse, and otherwise one more than the length
+// required, to see that nothing follows.
+pub fn bytes_needed(limit: usize, start: &[u8]) -> usize
+    ensures { λ r. ⌜ r ≡ bytesNeeded limit (now (start .entry)) ⌝ }
+{
+    if open_within(limit, start).answer != 4 {
+        return 28;
+    }
+    let rows = bytes::two_bytes(start, 0) as usize;
+    let columns = bytes::two_bytes(start, 2) as usize;
+    if !entries_fit(start, rows, columns) {
+        return 28;
+    }
+    let last = header::column_table_part(rows, columns);
+    last.offset + last.size + 1
 }
 
 // A part of a file as far as the file reaches.
