@@ -13,6 +13,7 @@ pub mod Adding
 pub mod Digits
 pub mod MadeFile
 pub mod Needed
+pub mod Printing
 pub mod Covering
 pub mod TurnedBack
 pub mod Sample

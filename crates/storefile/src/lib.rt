@@ -4,4 +4,5 @@ pub mod check;
 pub mod header;
 pub mod marks;
 pub mod opening;
+pub mod program;
 pub mod report;
