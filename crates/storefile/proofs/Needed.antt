@@ -5,8 +5,9 @@ use mathlib.Core.Logic.{_⊎_, inl, inr}
 use mathlib.Core.List.{List}
 use Prim.Native.Nat.{ℕ, suc, _+_, _≤_, _<_}
 use native.Mathlib.Decide.{decLe}
+use native.Mathlib.Nat.{mul-le-mul}
 use native.Mathlib.Omega.{arith}
-use borrow.Author.Tests.{eq-eqb, ne-eqb, le-leb, leb-true}
+use borrow.Author.Tests.{eq-eqb, ne-eqb, le-leb, leb-true, eqb-true}
 use lib.Dec.{eqb, leb}
 use lib.ListN.{length, take, drop, take-append-drop}
 use lib.Seq.{take-all, take-take, length-take-le}
@@ -21,7 +22,7 @@ use Rattle.storefile.specs.Check.{StoreChecked, refusedWith, checkStore}
 use Rattle.storefile.specs.Promises.{MoreChangesNothing}
 use Rattle.storefile.specs.declared.header.Part.{Part}
 use Rattle.storefile.specs.declared.opening.Opened.{Opened}
-use Rattle.storefile.proofs.Openings.{opened-accepted, opened-refused}
+use Rattle.storefile.proofs.Openings.{sides-within, opened-accepted, opened-refused}
 use Rattle.storefile.proofs.Checking.{check-refused}
 use Rattle.storefile.proofs.MadeFile.{number-in-front}
 
@@ -125,14 +126,38 @@ module _ (limit : ℕ) (start l : List ℕ) (long : 28 ≤ length l) (same : tak
           wrong : contentsFit l (rowsIn start) (columnsIn start) ≡ false
           wrong = rw (ne-eqb (length l) (fileLength (rowsIn start) (columnsIn start)) d) (and-false (entriesFit l (rowsIn start) (columnsIn start)))
 
+-- where only the contents can be wrong, rows and columns are at most the limit
+start-within : (limit : ℕ) (start : List ℕ) → openRefusal limit start ≡ 4 → sidesWithin limit (rowsIn start) (columnsIn start) ≡ true
+unfolding openRefusal headerBytes
+start-within limit start e =
+    let one = past (leb 28 (length start)) 1 _ 4 (λ z. omega arith) e in
+    let two = past (sidesFit (rowsIn start) (columnsIn start)) 2 _ 4 (λ z. omega arith) (one .1) in
+    past (sidesWithin limit (rowsIn start) (columnsIn start)) 3 _ 4 (λ z. omega arith) (two .1) .0
+
+end-within : (rows columns : ℕ) → sidesWithin 16 rows columns ≡ true → suc (fileLength rows columns) ≤ 20189
+unfolding fileLength columnTablePart rowTablePart linesPart headerBytes lineBytes
+end-within rows columns e =
+    let small = sides-within 16 rows columns e in
+    omega (arith, small .0, small .1, mul-le-mul (small .0) (small .1))
+
 -- ---- a file that is longer than needed is refused, and so is what was read of it
-needed-least : (limit : ℕ) (start : List ℕ) → 28 ≤ bytesNeeded limit start
+pub needed-least : (limit : ℕ) (start : List ℕ) → 28 ≤ bytesNeeded limit start
 unfolding bytesNeeded headerBytes fileLength columnTablePart rowTablePart linesPart
 needed-least limit start = go (eqb (openRefusal limit start) 4 && entriesFit start (rowsIn start) (columnsIn start))
   where
     go : (b : Bool) → 28 ≤ cond b (suc (fileLength (rowsIn start) (columnsIn start))) 28
     go true = omega arith
     go false = omega arith
+
+-- the largest store of 16 rows and columns at the most has 20188 bytes
+pub needed-most : (start : List ℕ) → bytesNeeded 16 start ≤ 20189
+unfolding bytesNeeded headerBytes
+needed-most start = go (eqb (openRefusal 16 start) 4) _ refl
+  where
+    go : (a b : Bool) → eqb (openRefusal 16 start) 4 ≡ a → cond (a && b) (suc (fileLength (rowsIn start) (columnsIn start))) 28 ≤ 20189
+    go false b e = omega arith
+    go true false e = omega arith
+    go true true e = end-within (rowsIn start) (columnsIn start) (start-within 16 start (eqb-true (openRefusal 16 start) 4 e))
 
 bodies-follow : (rows columns : ℕ) → 2 ≤ rows → 28 < fileLength rows columns
 unfolding fileLength columnTablePart rowTablePart linesPart headerBytes lineBytes

@@ -1,6 +1,6 @@
 -- Opening a file, test by test.
 use mathlib.Core.Path.{_≡_, sym, ap, _∙_}
-use mathlib.Core.Bool.{Bool, true, false}
+use mathlib.Core.Bool.{Bool, true, false, and-eq-true-iff}
 use mathlib.Core.Logic.{_⊎_, inl, inr}
 use mathlib.Core.List.{List, []}
 use Prim.Native.Nat.{ℕ, _+_, _-_, _≤_, _<_}
@@ -89,6 +89,12 @@ module _ (limit : ℕ) (file : List ℕ) where
             rw (le-leb 28 (length file) long, ← er, ← ec, sides, le-leb rows limit h, le-leb columns limit k, ← ef, e)
 
 -- ---- what an opened file tells
+pub sides-within : (limit rows columns : ℕ) → sidesWithin limit rows columns ≡ true → (rows ≤ limit) × (columns ≤ limit)
+unfolding sidesWithin
+sides-within limit rows columns e =
+    let both = and-eq-true-iff (leb rows limit) (leb columns limit) .0 e in
+    (leb-true rows limit (both .0), leb-true columns limit (both .1))
+
 pub record Opens (limit : ℕ) (file : List ℕ) : Type 0 where
   pub long : 28 ≤ length file
   pub sides : sidesFit (rowsIn file) (columnsIn file) ≡ true

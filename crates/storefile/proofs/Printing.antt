@@ -1,12 +1,11 @@
 -- The program's report: its work buffers just hold the store, and the text lies inside its buffer.
 use mathlib.Core.Path.{_≡_, refl, sym, ap, ap₂, _∙_}
-use mathlib.Core.Bool.{Bool, true, false, cond, and-eq-true-iff}
+use mathlib.Core.Bool.{Bool, true, false, cond}
 use mathlib.Core.List.{List, _∷_, _++_}
 use Prim.Native.Nat.{ℕ, zero, suc, _*_, _≤_}
 use native.Mathlib.Nat.{mul-le-mul}
 use native.Mathlib.Omega.{arith}
-use borrow.Author.Tests.{leb-true}
-use lib.Dec.{eqb, leb}
+use lib.Dec.{eqb}
 use lib.ListN.{length, take, drop, replicate, length-append, length-replicate}
 use lib.Seq.{length-take-le}
 use Rattle.linecode.specs.Places.{lineBytes}
@@ -16,13 +15,7 @@ use Rattle.storefile.specs.Check.{StoreChecked, checkStore}
 use Rattle.storefile.specs.Program.{programSide, programLines, programReport}
 use Rattle.storefile.specs.declared.report.Checked.{Checked}
 use Rattle.storefile.specs.declared.opening.Opened.{Opened}
-use Rattle.storefile.proofs.Openings.{Opens, Outcome, refused, accepted, outcome}
-
-sides-within : (limit rows columns : ℕ) → sidesWithin limit rows columns ≡ true → (rows ≤ limit) × (columns ≤ limit)
-unfolding sidesWithin
-sides-within limit rows columns e =
-    let both = and-eq-true-iff (leb rows limit) (leb columns limit) .0 e in
-    (leb-true rows limit (both .0), leb-true columns limit (both .1))
+use Rattle.storefile.proofs.Openings.{sides-within, Opens, Outcome, refused, accepted, outcome}
 
 -- rows and columns of a file that opens are at most the limit; of another they are 0
 pub within-limit : (limit : ℕ) (file : List ℕ) (o : Opened) → o ≡ opened limit file → (o .rows ≤ limit) × (o .columns ≤ limit)

@@ -48,11 +48,10 @@ same-length : tie.Need-same-length
 same-length c = search needs
 
 returns : tie.Need-returns
-returns c =
-    (
-      report-inside _ (c .before .before .before .before .before .before .before .before .before .before .before .before .before .args .text .now) _ _ _ (c .before .before .report .ensures) (same-length c),
-      program-printed (c .before .before .before .before .before .before .before .before .before .before .before .before .before .args .file .now) (c .before .before .before .before .before .before .before .before .before .before .before .before .before .args .text .now) _ (c .before .before .before .before .before .before .before .before .before .before .open-within .ensures) _ _ _ (c .before .before .before .before .before .before .check-within .ensures) _ (c .before .before .report .ensures),
-    )
+returns c = (
+  report-inside _ (c .before .before .before .before .before .before .before .before .before .before .before .before .before .args .text .now) _ _ _ (c .before .before .report .ensures) (same-length c),
+  program-printed (c .before .before .before .before .before .before .before .before .before .before .before .before .before .args .file .now) (c .before .before .before .before .before .before .before .before .before .before .before .before .before .args .text .now) _ (c .before .before .before .before .before .before .before .before .before .before .open-within .ensures) _ _ _ (c .before .before .before .before .before .before .check-within .ensures) _ (c .before .before .report .ensures),
+)
 
 pub report-on-spec : {M : Type 1} → statement M
 report-on-spec =
