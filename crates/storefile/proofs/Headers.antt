@@ -15,10 +15,6 @@ use Rattle.storefile.specs.Header.{headerBytes, linesPart, rowTablePart,
 use Rattle.storefile.specs.declared.header.Part.{Part}
 use Rattle.storefile.proofs.Placing.{placed-then, placed-whole}
 
-pub length-entry : (p : Part) → length (entry p) ≡ 8
-unfolding entry
-length-entry p = refl
-
 pub length-header : (rows columns : ℕ) → length (header rows columns) ≡ 28
 unfolding header entry
 length-header rows columns = refl

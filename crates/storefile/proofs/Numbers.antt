@@ -48,7 +48,3 @@ number-bytes zero n h = omega arith
 number-bytes (suc k) n h =
     let e = number-bytes k (n / 256) (div-lt-iff-lt-mul {k = 256} {x = n} {y = 256 ^ k} (omega arith) .1 (rw (pow-suc 256 k) at h)) in
     omega arith
-
-pub length-bytes : (k n : ℕ) → length (littleEndian k n) ≡ k
-length-bytes zero n = refl
-length-bytes (suc k) n = ap suc (length-bytes k (n / 256))

@@ -10,12 +10,6 @@ use lib.Seq.{length-take-le, take-at, take-length, drop-append-add, drop-drop, s
 use Rattle.storefile.specs.Bytes.{placed, Put}
 
 module _ (old : List ℕ) (at : ℕ) where
-  pub placed-length : (a : List ℕ) → at + length a ≤ length old → length (placed old at a) ≡ length old
-  unfolding placed
-  placed-length a h =
-      length-append (take at old ++ a) (drop (at + length a) old)
-      ∙ omega (arith, length-append (take at old) a, length-take-le at old (omega arith), length-drop (at + length a) old)
-
   -- b put where a ends
   pub placed-next : (a b : List ℕ) → at + length a ≤ length old
       → placed (placed old at a) (at + length a) b ≡ placed old at (a ++ b)
