@@ -1,0 +1,126 @@
+//! A second implementation of the caption store, written from its rules
+//! (document 01) alone.
+//!
+//! It is made to be read beside that document, not to be fast: a line is a
+//! row of 553 truth values, a check is a long division, and repair follows
+//! the rules' sentences one by one. Tests hold the proved library against it.
+//!
+//! | Document 01 | Here |
+//! |---|---|
+//! | "CRC" | [`polynomial`] |
+//! | "Hamming" | [`hamming`] |
+//! | "Reading alone", for any width | [`code`] |
+//! | "One line, 70 bytes" | [`line`](mod@line) |
+//! | "The rectangle" | [`rectangle`] |
+//! | "Repair" | [`repair`](mod@repair) |
+//! | "Store file" | [`file`](mod@file) |
+//! | "Turned back, in checking order" | [`answer`] |
+//!
+//! [`random`] and [`draw`] make inputs for tests: stores, damage and files,
+//! each the same again for the same seed.
+//!
+//! The entry points take byte slices of any length and never panic on them.
+//! What they write goes into the buffers lent to them; after a refusal from 1
+//! to 10 these hold what they held before, but for [`read_line`]'s 10.
+//!
+//! ```
+//! let mut line = [0; 70];
+//! assert_eq!(reference::write_line(b"To be, or not to be, that is the question: Whether 'tis nobler i", &mut line), 0);
+//!
+//! // One bit turns over; the line still reads alone.
+//! let mut hurt = line;
+//! hurt[5] ^= 0x10;
+//! let mut out = [0; 70];
+//! let read = reference::read_line(&hurt, &mut out);
+//! assert_eq!((read.answer, read.mark), (0, 1));
+//! assert_eq!(out, line);
+//! ```
+
+pub mod code;
+pub mod draw;
+pub mod file;
+pub mod hamming;
+pub mod line;
+pub mod polynomial;
+pub mod random;
+pub mod rectangle;
+pub mod repair;
+
+pub use file::{StoreFile, check_file, storecheck};
+pub use line::{ReadLine, read_line, write_line};
+pub use rectangle::{change_line, make_tables};
+pub use repair::{Repair, repair};
+
+/// Data bytes of one line.
+pub const DATA_BYTES: usize = 64;
+
+/// Bytes of one line.
+pub const LINE_BYTES: usize = 70;
+
+/// Places of data, from place 0.
+pub const DATA_PLACES: usize = 512;
+
+/// Places of the CRC, after the data.
+pub const CRC_PLACES: usize = 31;
+
+/// Protected places: data and CRC.
+pub const PROTECTED_PLACES: usize = DATA_PLACES + CRC_PLACES;
+
+/// Hamming bits, after the protected places.
+pub const HAMMING_PLACES: usize = 10;
+
+/// All places of one line.
+pub const PLACES: usize = PROTECTED_PLACES + HAMMING_PLACES;
+
+/// The least number of rows or columns.
+pub const LEAST_SIDE: usize = 2;
+
+/// The greatest number of rows or columns.
+pub const GREATEST_SIDE: usize = 512;
+
+/// The greatest number of rows or columns that the program takes.
+pub const PROGRAM_SIDE: usize = 16;
+
+/// The answers, by document 01's numbers.
+pub mod answer {
+    /// Success.
+    pub const DONE: u32 = 0;
+    /// The file has fewer than 28 bytes.
+    pub const SHORT_FILE: u32 = 1;
+    /// Rows or columns lie outside 2 to 512.
+    pub const SIDES: u32 = 2;
+    /// In the program only: rows or columns exceed 16.
+    pub const PROGRAM_SIDES: u32 = 3;
+    /// The contents table or the file's length is another than required.
+    pub const CONTENTS: u32 = 4;
+    /// The lines handed in have another length.
+    pub const LINES: u32 = 5;
+    /// A table, read or written, has another length.
+    pub const TABLE: u32 = 6;
+    /// Any other buffer has another length.
+    pub const BUFFER: u32 = 7;
+    /// The line number isn't below rows times columns.
+    pub const NUMBER: u32 = 8;
+    /// A parity line, spare bits apart, isn't a correct line.
+    pub const PARITY: u32 = 9;
+    /// A line to be read alone, changed or summed is faulty.
+    pub const FAULTY: u32 = 10;
+    /// Faulty lines are left after the last pass.
+    pub const LEFT: u32 = 11;
+    /// No line is faulty, but some parity line differs from the repaired lines'.
+    pub const DIFFERS: u32 = 12;
+}
+
+/// The marks, by document 01's numbers.
+pub mod mark {
+    /// Accepted with the protected word untouched.
+    pub const UNTOUCHED: u8 = 0;
+    /// Accepted after a flip.
+    pub const FLIPPED: u8 = 1;
+    /// Mended by trial.
+    pub const TRIAL: u8 = 2;
+    /// Rebuilt from its group.
+    pub const REBUILT: u8 = 3;
+    /// Faulty.
+    pub const FAULTY: u8 = 4;
+}

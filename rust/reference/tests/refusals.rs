@@ -1,0 +1,499 @@
+//! Refusals, in checking order, and what they write.
+
+use reference::draw::{self, Store, flip};
+use reference::random::Random;
+use reference::{
+    LINE_BYTES, ReadLine, Repair, change_line, check_file, file, make_tables, read_line, repair,
+    storecheck, write_line,
+};
+
+const FILLING: u8 = 0xA5;
+
+fn untouched(bytes: &[u8]) -> bool {
+    bytes.iter().all(|&byte| byte == FILLING)
+}
+
+#[test]
+fn write_line_refuses_lengths() {
+    for (data, line) in [
+        (63, 70),
+        (65, 70),
+        (0, 70),
+        (64, 69),
+        (64, 71),
+        (64, 0),
+        (1, 1),
+    ] {
+        let mut out = vec![FILLING; line];
+        assert_eq!(write_line(&vec![1; data], &mut out), 7);
+        assert!(untouched(&out));
+    }
+}
+
+#[test]
+fn read_line_refuses_in_order() {
+    for (line, out, answer) in [
+        (69, 70, 5),
+        (71, 70, 5),
+        (0, 0, 5),
+        (69, 69, 5),
+        (70, 69, 7),
+        (70, 71, 7),
+        (70, 0, 7),
+    ] {
+        let mut bytes = vec![FILLING; out];
+        let read = read_line(&vec![1; line], &mut bytes);
+        assert_eq!(read, ReadLine { answer, mark: 0 });
+        assert!(untouched(&bytes));
+    }
+    // 10 still writes the line as found, spare bits 0.
+    let mut line = [0; LINE_BYTES];
+    flip(&mut line, &[0, 1]);
+    let mut found = line;
+    found[67] |= 0x80;
+    found[69] |= 0xFC;
+    let mut out = [FILLING; LINE_BYTES];
+    let read = read_line(&found, &mut out);
+    assert_eq!(
+        read,
+        ReadLine {
+            answer: 10,
+            mark: 4
+        }
+    );
+    assert_eq!(out, line);
+}
+
+#[test]
+fn spare_bits_are_ignored_when_read() {
+    let mut random = Random::new(7);
+    for _ in 0..200 {
+        let line = draw::correct_line(&mut random);
+        let mut found = line;
+        draw::set_spare_bits(&mut random, &mut found, 1);
+        let mut out = [FILLING; LINE_BYTES];
+        assert_eq!(read_line(&found, &mut out), ReadLine { answer: 0, mark: 0 });
+        assert_eq!(out, line);
+    }
+}
+
+/// All that a call may be refused for, one thing at a time or several.
+#[derive(Clone)]
+struct Call {
+    rows: usize,
+    columns: usize,
+    store: Store,
+    out: Vec<u8>,
+    marks: Vec<u8>,
+    data: Vec<u8>,
+    n: usize,
+}
+
+impl Call {
+    fn new(rows: usize, columns: usize) -> Call {
+        Call {
+            rows,
+            columns,
+            store: Store::random(&mut Random::new(4), rows, columns),
+            out: vec![FILLING; rows * columns * LINE_BYTES],
+            marks: vec![FILLING; rows * columns],
+            data: vec![3; 64],
+            n: 1,
+        }
+    }
+
+    /// The answers of making tables, changing and repairing; whatever refuses
+    /// must have written nothing.
+    fn answers(&self) -> [u32; 3] {
+        let (rows, columns) = (self.rows, self.columns);
+
+        let mut made = self.clone();
+        let store = &mut made.store;
+        let tables = make_tables(
+            rows,
+            columns,
+            &store.lines,
+            &mut store.row_table,
+            &mut store.column_table,
+        );
+        assert!(tables == 0 || made.store == self.store);
+
+        let mut changed = self.clone();
+        let store = &mut changed.store;
+        let change = change_line(
+            rows,
+            columns,
+            &mut store.lines,
+            &mut store.row_table,
+            &mut store.column_table,
+            self.n,
+            &self.data,
+        );
+        assert!(change == 0 || changed.store == self.store);
+
+        let mut repaired = self.clone();
+        let store = &self.store;
+        let Repair { answer, passes } = repair(
+            rows,
+            columns,
+            &store.lines,
+            &store.row_table,
+            &store.column_table,
+            &mut repaired.out,
+            &mut repaired.marks,
+        );
+        if (1..=10).contains(&answer) {
+            assert_eq!(passes, 0);
+            assert_eq!(
+                (repaired.out, repaired.marks),
+                (self.out.clone(), self.marks.clone())
+            );
+        }
+        [tables, change, answer]
+    }
+}
+
+#[test]
+fn refusals_in_checking_order() {
+    let mut call = Call::new(2, 3);
+    assert_eq!(call.answers(), [0, 0, 0]);
+
+    // Line 1 is faulty: 10, and repair mends it.
+    call.store.hurt(1, &[0, 1]);
+    assert_eq!(call.answers(), [10, 10, 0]);
+    // Another line is faulty: a change doesn't look at it.
+    let mut other = Call::new(2, 3);
+    other.store.hurt(2, &[0, 1]);
+    assert_eq!(other.answers(), [10, 0, 0]);
+
+    // A parity line isn't correct: 9 before 10.
+    let mut parity = call.clone();
+    flip(&mut parity.store.row_table, &[543]);
+    assert_eq!(parity.answers(), [10, 9, 9]);
+    let mut parity = call.clone();
+    flip(&mut parity.store.column_table[LINE_BYTES..], &[0]);
+    assert_eq!(parity.answers(), [10, 9, 9]);
+    // Another parity line: a change checks only its two.
+    let mut parity = call.clone();
+    flip(&mut parity.store.row_table[LINE_BYTES..], &[0]);
+    flip(&mut parity.store.column_table, &[0]);
+    assert_eq!(parity.answers(), [10, 10, 9]);
+    flip(&mut call.store.row_table, &[0]);
+
+    // The line number: 8 before 9.
+    call.n = 6;
+    assert_eq!(call.answers(), [10, 8, 9]);
+    call.n = usize::MAX;
+    assert_eq!(call.answers(), [10, 8, 9]);
+
+    // Other buffers: 7 before 8.
+    for length in [0, 63, 65] {
+        call.data = vec![0; length];
+        assert_eq!(call.answers(), [10, 7, 9]);
+    }
+    for length in [0, 419, 421] {
+        call.out = vec![FILLING; length];
+        assert_eq!(call.answers(), [10, 7, 7]);
+    }
+    call.out = vec![FILLING; 420];
+    for length in [0, 5, 7] {
+        call.marks = vec![FILLING; length];
+        assert_eq!(call.answers(), [10, 7, 7]);
+    }
+
+    // Tables: 6 before 7.
+    for length in [0, 139, 141, 210] {
+        let mut table = call.clone();
+        table.store.row_table = vec![0; length];
+        assert_eq!(table.answers(), [6, 6, 6]);
+    }
+    for length in [0, 209, 211, 140] {
+        call.store.column_table = vec![0; length];
+        assert_eq!(call.answers(), [6, 6, 6]);
+    }
+
+    // Lines: 5 before 6.
+    for length in [0, 419, 421] {
+        call.store.lines = vec![0; length];
+        assert_eq!(call.answers(), [5, 5, 5]);
+    }
+
+    // Sides: 2 before 5.
+    for (rows, columns) in [(1, 3), (2, 1), (0, 0), (513, 3), (2, 513), (usize::MAX, 2)] {
+        (call.rows, call.columns) = (rows, columns);
+        assert_eq!(call.answers(), [2, 2, 2]);
+    }
+}
+
+#[test]
+fn spare_bits_of_parity_lines_are_no_fault() {
+    let mut random = Random::new(9);
+    let written = Store::random(&mut random, 3, 3);
+    let mut store = written.clone();
+    draw::set_spare_bits(&mut random, &mut store.row_table, 1);
+    draw::set_spare_bits(&mut random, &mut store.column_table, 1);
+    draw::set_spare_bits(&mut random, &mut store.lines, 1);
+    store.hurt(4, &[0, 1]);
+    let outcome = store.repaired(FILLING);
+    assert_eq!((outcome.answer, outcome.passes), (0, 1));
+    assert_eq!(outcome.lines, written.lines);
+    assert_eq!(outcome.marks, [0, 0, 0, 0, 3, 0, 0, 0, 0]);
+}
+
+#[test]
+fn change_equals_tables_made_anew() {
+    let mut random = Random::new(10);
+    for _ in 0..300 {
+        let (rows, columns) = draw::sides(&mut random, 6);
+        let mut store = Store::random(&mut random, rows, columns);
+        // Every line may lose a bit and still read alone.
+        draw::hurt(&mut random, &mut store, draw::Damage::Singles);
+        draw::set_spare_bits(&mut random, &mut store.lines, 2);
+        draw::set_spare_bits(&mut random, &mut store.row_table, 2);
+        draw::set_spare_bits(&mut random, &mut store.column_table, 2);
+        let before = store.clone();
+        let n = random.below(store.count());
+        let mut data = [0; 64];
+        random.fill(&mut data);
+        let answer = change_line(
+            rows,
+            columns,
+            &mut store.lines,
+            &mut store.row_table,
+            &mut store.column_table,
+            n,
+            &data,
+        );
+        assert_eq!(answer, 0);
+
+        let mut line = [0; LINE_BYTES];
+        write_line(&data, &mut line);
+        let mut lines = before.lines.clone();
+        lines[n * LINE_BYTES..][..LINE_BYTES].copy_from_slice(&line);
+        assert_eq!(store.lines, lines);
+
+        let mut anew = store.clone();
+        assert_eq!(anew.tables_anew(), 0);
+        assert!(draw::same_places(&store.row_table, &anew.row_table));
+        assert!(draw::same_places(&store.column_table, &anew.column_table));
+        // Only the two parity lines changed; they have spare bits 0.
+        let tables = [
+            (
+                &before.row_table,
+                &store.row_table,
+                &anew.row_table,
+                n / columns,
+            ),
+            (
+                &before.column_table,
+                &store.column_table,
+                &anew.column_table,
+                n % columns,
+            ),
+        ];
+        for (before, after, anew, changed) in tables {
+            for i in 0..before.len() / LINE_BYTES {
+                let bytes = i * LINE_BYTES..(i + 1) * LINE_BYTES;
+                let expected = if i == changed { anew } else { before };
+                assert_eq!(after[bytes.clone()], expected[bytes]);
+            }
+        }
+    }
+}
+
+#[test]
+fn eleven_and_twelve_write_lines_and_marks() {
+    // 11: one line mended alone, the ring left as found, spare bits 0.
+    let mut store = Store::zero(3, 3);
+    for n in [0, 1, 3, 4] {
+        store.hurt(n, &[0, 1]);
+    }
+    store.hurt(8, &[5]);
+    let mut expected = store.clone();
+    expected.hurt(8, &[5]);
+    draw::set_spare_bits(&mut Random::new(1), &mut store.lines, 1);
+    let outcome = store.repaired(FILLING);
+    assert_eq!((outcome.answer, outcome.passes), (11, 1));
+    assert_eq!(outcome.marks, [4, 4, 0, 4, 4, 0, 0, 0, 1]);
+    assert_eq!(outcome.lines, expected.lines);
+
+    // 12: a parity line is another correct line.
+    let mut store = Store::zero(2, 2);
+    let mut data = [0; 64];
+    data[63] = 0x80;
+    write_line(&data, &mut store.column_table[LINE_BYTES..]);
+    store.hurt(0, &[5]);
+    let outcome = store.repaired(FILLING);
+    assert_eq!((outcome.answer, outcome.passes), (12, 0));
+    assert_eq!(outcome.marks, [1, 0, 0, 0]);
+    assert_eq!(outcome.lines, [0; 4 * LINE_BYTES]);
+}
+
+#[test]
+fn file_header_refusals() {
+    let store = Store::random(&mut Random::new(2), 3, 2);
+    let file = store.file();
+    let checked = check_file(&file);
+    assert_eq!((checked.answer, checked.rows, checked.columns), (0, 3, 2));
+    assert_eq!(file[checked.lines.clone()], store.lines);
+    assert_eq!(file[checked.row_table.clone()], store.row_table);
+    assert_eq!(file[checked.column_table.clone()], store.column_table);
+    assert_eq!(checked.lines.start, 28);
+    assert_eq!(checked.column_table.end, file.len());
+
+    // Any other value of any contents byte is 4.
+    for at in 4..file::HEADER_BYTES {
+        for value in 0..=255 {
+            let mut spoilt = file.clone();
+            spoilt[at] = value;
+            let expected = if value == file[at] { 0 } else { 4 };
+            assert_eq!(check_file(&spoilt).answer, expected);
+        }
+    }
+    // So is any other length from 28 up, and 1 below.
+    for length in 0..file.len() + 100 {
+        let mut spoilt = file.clone();
+        spoilt.resize(length, 0);
+        let expected = match length {
+            0..28 => 1,
+            _ if length == file.len() => 0,
+            _ => 4,
+        };
+        let checked = check_file(&spoilt);
+        assert_eq!(checked.answer, expected);
+        if expected != 0 {
+            assert_eq!((checked.rows, checked.columns), (0, 0));
+            assert_eq!(storecheck(&spoilt), format!("answer {expected}\n"));
+        }
+    }
+    // Sides decide before the contents.
+    for side in [0u16, 1, 513, 65535] {
+        for at in [0, 2] {
+            let mut spoilt = file.clone();
+            spoilt[at..at + 2].copy_from_slice(&side.to_le_bytes());
+            assert_eq!(check_file(&spoilt).answer, 2);
+            assert_eq!(storecheck(&spoilt), "answer 2\n");
+        }
+    }
+}
+
+#[test]
+fn reports_of_refusal_9_and_answers_11_and_12() {
+    let mut store = Store::zero(2, 2);
+    flip(&mut store.column_table, &[0]);
+    assert_eq!(storecheck(&store.file()), "answer 9\n");
+
+    let mut store = Store::zero(2, 2);
+    (0..4).for_each(|n| store.hurt(n, &[0, 1]));
+    let left = "store 2 2\nclean 0\nalone 0\ntrial 0\nrebuilt 0\nfaulty 4\npasses 1\nanswer 11\n";
+    assert_eq!(storecheck(&store.file()), left);
+
+    let mut store = Store::zero(2, 2);
+    store
+        .line_mut(3)
+        .copy_from_slice(&draw::correct_line(&mut Random::new(0)));
+    store.hurt(0, &[9]);
+    let differs =
+        "store 2 2\nclean 3\nalone 1\ntrial 0\nrebuilt 0\nfaulty 0\npasses 0\nanswer 12\n";
+    assert_eq!(storecheck(&store.file()), differs);
+}
+
+#[test]
+fn drawn_calls_reach_every_refusal() {
+    let mut random = Random::new(11);
+    // For writing, reading, tables, changing and repairing.
+    let mut answers = [[0usize; 13]; 5];
+    for _ in 0..20_000 {
+        let mut call = draw::call(&mut random, 3);
+        if random.once_in(8) {
+            random.fill(&mut call.lines);
+        }
+        let before = call.clone();
+        let (rows, columns) = (call.rows, call.columns);
+        let mut count = |entry: usize, answer: u32| {
+            answers[entry][answer as usize] += 1;
+            (1..=10).contains(&answer)
+        };
+
+        if count(0, write_line(&call.data, &mut call.line_out)) {
+            assert_eq!(call, before);
+        }
+        call.line_out.clone_from(&before.line_out);
+        let read = read_line(&call.line, &mut call.line_out);
+        if count(1, read.answer) && read.answer != 10 {
+            assert_eq!(read.mark, 0);
+            assert_eq!(call, before);
+        }
+        call.line_out.clone_from(&before.line_out);
+        let given = repair(
+            rows,
+            columns,
+            &call.lines,
+            &call.row_table,
+            &call.column_table,
+            &mut call.out,
+            &mut call.marks,
+        );
+        if count(4, given.answer) {
+            assert_eq!(given.passes, 0);
+            assert_eq!(call, before);
+        }
+        call.clone_from(&before);
+        let changed = change_line(
+            rows,
+            columns,
+            &mut call.lines,
+            &mut call.row_table,
+            &mut call.column_table,
+            call.n,
+            &call.data,
+        );
+        if count(3, changed) {
+            assert_eq!(call, before);
+        }
+        call.clone_from(&before);
+        let made = make_tables(
+            rows,
+            columns,
+            &call.lines,
+            &mut call.row_table,
+            &mut call.column_table,
+        );
+        if count(2, made) {
+            assert_eq!(call, before);
+        }
+    }
+    let due: [&[usize]; 5] = [
+        &[0, 7],
+        &[0, 5, 7, 10],
+        &[0, 2, 5, 6, 10],
+        &[0, 2, 5, 6, 7, 8, 9, 10],
+        &[0, 2, 5, 6, 7, 9, 11, 12],
+    ];
+    for (entry, counts) in answers.iter().enumerate() {
+        println!("{counts:?}");
+        for (answer, &count) in counts.iter().enumerate() {
+            let is_due = due[entry].contains(&answer);
+            assert_eq!(
+                count > 20,
+                is_due,
+                "entry {entry}, answer {answer}: {count}"
+            );
+            assert!(is_due || count == 0);
+        }
+    }
+}
+
+#[test]
+fn any_bytes_are_taken_as_a_file() {
+    let mut random = Random::new(16);
+    for _ in 0..5000 {
+        let mut bytes = vec![0; random.below(600)];
+        random.fill(&mut bytes);
+        if random.once_in(2) && bytes.len() >= 28 {
+            bytes[..28].copy_from_slice(&file::header(2, 2));
+        }
+        assert_ne!(check_file(&bytes).answer, 3);
+        assert!(storecheck(&bytes).starts_with("answer "));
+    }
+}
