@@ -5,7 +5,6 @@
 
 use std::env;
 use std::path::{Path, PathBuf};
-use std::process::ExitCode;
 
 const VARIABLE: &str = "SUDOKU_STATICLIB";
 
@@ -18,7 +17,7 @@ fn archive() -> PathBuf {
     Path::new(&here).join("../../target/staticlib/libcapi.a")
 }
 
-fn main() -> ExitCode {
+fn main() {
     println!("cargo::rerun-if-env-changed={VARIABLE}");
     let archive = archive();
     println!("cargo::rerun-if-changed={}", archive.display());
@@ -28,14 +27,13 @@ fn main() -> ExitCode {
              repository's root, or set {VARIABLE} to the path of libcapi.a",
             archive.display()
         );
-        return ExitCode::FAILURE;
+        return;
     };
     if archive.file_name().is_none_or(|name| name != "libcapi.a") {
         println!("cargo::error={VARIABLE} must name a file libcapi.a");
-        return ExitCode::FAILURE;
+        return;
     }
     let folder = archive.parent().unwrap_or(Path::new("/"));
     println!("cargo::rustc-link-search=native={}", folder.display());
     println!("cargo::rustc-link-lib=static=capi");
-    ExitCode::SUCCESS
 }
