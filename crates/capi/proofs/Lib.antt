@@ -1,0 +1,2 @@
+-- What the proofs of the C interface share.
+pub mod Single

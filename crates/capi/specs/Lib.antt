@@ -1,0 +1,2 @@
+-- The C interface. Tables, change and repair cite the rectangle's own definitions; here stand those of one line.
+pub mod Single

@@ -1,0 +1,112 @@
+// The C interface: the entry points over slices and numbers, for programs in other languages to link.
+// In C a slice is a pointer and a length, and the mark and the passes are returned through a pointer.
+ghost use mathlib.Core.Path.{_≡_};
+ghost use Rattle.linecode.specs.declared.Written.{Written};
+ghost use Rattle.linecode.specs.declared.Answered.{Answered};
+ghost use Rattle.rectangle.specs.Tables.{TablesMade, makeTables};
+ghost use Rattle.rectangle.specs.Change.{LineChanged, changeLine};
+ghost use Rattle.rectangle.specs.Repair.{StoreRepaired, repairStore};
+ghost use Rattle.capi.specs.Single.{writeLine, readLine};
+use rectangle::lines;
+
+// A line written from 64 data bytes into `line`.
+#[no_mangle]
+pub extern "C" fn sudoku_write_line(payload: &[u8], line: &mut [u8]) -> u32
+    ensures { λ r. ⌜ _≡_ {A = Written}
+        (record { answer = r; line = now (line .exit) })
+        (writeLine (now (payload .entry)) (now (line .entry))) ⌝ }
+{
+    if line.len() != 70 {
+        return 7;
+    }
+    let written = linecode::write(payload);
+    let answer = written.answer;
+    if answer != 0 {
+        return answer;
+    }
+    let bytes = written.line;
+    lines::put_line(line, 0, bytes);
+    0
+}
+
+// A line read alone into `out`, and its mark.
+#[no_mangle]
+pub extern "C" fn sudoku_read_line(line: &[u8], out: &mut [u8], mark: &mut u8) -> u32
+    ensures { λ r. ⌜ _≡_ {A = Answered}
+        (record { answer = r; line = now (out .exit); mark = now (mark .exit) })
+        (readLine (now (line .entry)) (now (out .entry))) ⌝ }
+{
+    *mark = 0;
+    if line.len() != 70 {
+        return 5;
+    }
+    if out.len() != 70 {
+        return 7;
+    }
+    let read = linecode::read(line);
+    let bytes = read.line;
+    lines::put_line(out, 0, bytes);
+    *mark = read.mark;
+    read.answer
+}
+
+// Both parity tables made from the lines.
+#[no_mangle]
+pub extern "C" fn sudoku_make_tables(
+    rows: usize,
+    columns: usize,
+    lines: &[u8],
+    row_table: &mut [u8],
+    column_table: &mut [u8],
+) -> u32
+    ensures { λ r. ⌜ _≡_ {A = TablesMade}
+        (record { answer = r; rowTable = now («row_table» .exit); columnTable = now («column_table» .exit) })
+        (makeTables rows columns (now (lines .entry)) (now («row_table» .entry)) (now («column_table» .entry))) ⌝ }
+{
+    rectangle::tables::make_tables(rows, columns, lines, row_table, column_table)
+}
+
+// Line n written anew from 64 data bytes, with its two parity lines.
+#[no_mangle]
+pub extern "C" fn sudoku_change_line(
+    rows: usize,
+    columns: usize,
+    lines: &mut [u8],
+    row_table: &mut [u8],
+    column_table: &mut [u8],
+    n: usize,
+    payload: &[u8],
+) -> u32
+    ensures { λ r. ⌜ _≡_ {A = LineChanged}
+        (record {
+          answer = r;
+          lines = now (lines .exit);
+          rowTable = now («row_table» .exit);
+          columnTable = now («column_table» .exit);
+        })
+        (changeLine rows columns (now (lines .entry)) (now («row_table» .entry)) (now («column_table» .entry)) n
+        (now (payload .entry))) ⌝ }
+{
+    rectangle::change::change_line(rows, columns, lines, row_table, column_table, n, payload)
+}
+
+// Repair of the lines into `out` and `marks`, and its passes.
+#[no_mangle]
+pub extern "C" fn sudoku_repair(
+    rows: usize,
+    columns: usize,
+    lines: &[u8],
+    row_table: &[u8],
+    column_table: &[u8],
+    out: &mut [u8],
+    marks: &mut [u8],
+    passes: &mut u64,
+) -> u32
+    ensures { λ r. ⌜ _≡_ {A = StoreRepaired}
+        (record { answer = r; passes = now (passes .exit); lines = now (out .exit); marks = now (marks .exit) })
+        (repairStore rows columns (now (lines .entry)) (now («row_table» .entry)) (now («column_table» .entry)) (now (out .entry)) (now (marks .entry))) ⌝ }
+{
+    let repaired = repair::repair(rows, columns, lines, row_table, column_table, out, marks);
+    *passes = repaired.passes as u64;
+    repaired.answer
+}

@@ -1,0 +1,141 @@
+/*
+ * The caption store: lines of 70 bytes in a rectangle with parity lines, after the SuDoku scheme.
+ *
+ * Link with libcapi.a, which `rt staticlib capi` writes to target/staticlib (x86-64 Linux). Each function below is proved to
+ * give, for any input, the answer, the values and every byte of every writable buffer that the store's rules ask for.
+ *
+ * A line holds 64 bytes of data, a check (BCH, 31 bits) and ten bits that find one damaged bit (Hamming). Seven bits of it are
+ * spare: bit 7 of byte 67 and bits 2 to 7 of byte 69. They are written 0 and ignored when read. Rows and columns are each 2 to
+ * 512. Line n has row n / columns and column n % columns, and stands at byte 70 * n. The row table holds a parity line for each
+ * row, the column table one for each column: the exclusive or of that row's or column's lines.
+ *
+ * What a caller owes:
+ * - A pointer and the length after it name that many bytes, which the caller may read, or write where they are not const. A
+ *   null pointer goes with length 0 only. Any length may be handed in: a wrong one is refused and nothing is written.
+ * - `mark` and `passes` are not null. They are returned values: every call sets them, to 0 on refusals but for one, below.
+ * - Writable buffers, `mark` and `passes` among them, overlap nothing else that is handed in. Buffers that are only read may
+ *   overlap each other.
+ *
+ * Calls keep no state and allocate nothing, so threads may call at once, each on writable buffers of its own.
+ *
+ * Example: a caption is stored, two of its bits are hurt, and repair brings it back.
+ *
+ *     #include <stdio.h>
+ *     #include <string.h>
+ *     #include "sudoku.h"
+ *
+ *     enum { ROWS = 2, COLUMNS = 2, LINES = ROWS * COLUMNS };
+ *
+ *     int main(void)
+ *     {
+ *         static uint8_t lines[LINES * SUDOKU_LINE_BYTES], out[LINES * SUDOKU_LINE_BYTES], marks[LINES];
+ *         static uint8_t rows[ROWS * SUDOKU_LINE_BYTES], columns[COLUMNS * SUDOKU_LINE_BYTES];
+ *         uint8_t data[SUDOKU_DATA_BYTES] = "To be, or not to be";
+ *         uint64_t passes;
+ *
+ *         for (size_t n = 0; n < LINES; n++)
+ *             if (sudoku_write_line(data, sizeof data, lines + n * SUDOKU_LINE_BYTES, SUDOKU_LINE_BYTES) != SUDOKU_DONE)
+ *                 return 1;
+ *         if (sudoku_make_tables(ROWS, COLUMNS, lines, sizeof lines, rows, sizeof rows, columns, sizeof columns) != SUDOKU_DONE)
+ *             return 1;
+ *         lines[3 * SUDOKU_LINE_BYTES] ^= 3;
+ *         if (sudoku_repair(ROWS, COLUMNS, lines, sizeof lines, rows, sizeof rows, columns, sizeof columns,
+ *                           out, sizeof out, marks, sizeof marks, &passes) != SUDOKU_DONE)
+ *             return 1;
+ *         printf("%s, mark %u\n", (const char *)out + 3 * SUDOKU_LINE_BYTES, (unsigned)marks[3]);
+ *         return memcmp(out + 3 * SUDOKU_LINE_BYTES, data, sizeof data) == 0 ? 0 : 1;
+ *     }
+ */
+#ifndef SUDOKU_H
+#define SUDOKU_H
+
+#include <stddef.h>
+#include <stdint.h>
+
+#ifdef __cplusplus
+extern "C" {
+#endif
+
+#define SUDOKU_DATA_BYTES 64
+#define SUDOKU_LINE_BYTES 70
+#define SUDOKU_LEAST_SIDE 2
+#define SUDOKU_GREATEST_SIDE 512
+
+/*
+ * Answers. A call gives the first that fits in this order; 0 if none does. Those from 2 to 10 are refusals: nothing is written,
+ * and a returned value is 0. One differs: sudoku_read_line's 10, which gives the line as found and mark 4. With 11 and 12 the
+ * lines, the marks and the passes are given as with 0. (Numbers 1, 3 and 4 are about store files and come from no call here.)
+ */
+enum sudoku_answer {
+    SUDOKU_DONE = 0,    /* done */
+    SUDOKU_SIDES = 2,   /* rows or columns lie outside 2 to 512 */
+    SUDOKU_LINES = 5,   /* the lines handed in are not rows * columns * 70 bytes, or a single line to be read is not 70 bytes */
+    SUDOKU_TABLE = 6,   /* a table, read or written, is not 70 bytes for each of its rows or columns */
+    SUDOKU_BUFFER = 7,  /* another buffer has another length: 64 for data, 70 for a line written, and so on, as each function says */
+    SUDOKU_NUMBER = 8,  /* the line number is not below rows * columns */
+    SUDOKU_PARITY = 9,  /* a parity line is not a correct line (its spare bits do not count) */
+    SUDOKU_FAULTY = 10, /* a line to be read alone, changed or summed into tables is faulty */
+    SUDOKU_LEFT = 11,   /* repair: faulty lines are left after the last pass */
+    SUDOKU_DIFFERS = 12 /* repair: no line is faulty, but some parity line differs from that of the repaired lines */
+};
+
+/* Marks: what became of a line. Reading alone gives 0, 1 or 4. */
+enum sudoku_mark {
+    SUDOKU_MARK_UNTOUCHED = 0, /* accepted, data and check as they were */
+    SUDOKU_MARK_FLIPPED = 1,   /* accepted after one bit was flipped */
+    SUDOKU_MARK_TRIAL = 2,     /* mended by trial: one bit was flipped where the line's row or column does not sum up */
+    SUDOKU_MARK_REBUILT = 3,   /* rebuilt from the parity line and the other lines of its row or column */
+    SUDOKU_MARK_FAULTY = 4     /* faulty: given as found, spare bits 0 */
+};
+
+/*
+ * Writes the line of 64 data bytes into `line`, 70 bytes.
+ *
+ * Answers: 0; 7 if `data_len` is not 64 or `line_len` is not 70.
+ */
+uint32_t sudoku_write_line(const uint8_t *data, size_t data_len, uint8_t *line, size_t line_len);
+
+/*
+ * Reads one line alone into `out`, 70 bytes with spare bits 0, and sets `mark`. One damaged bit is mended.
+ *
+ * Answers: 0, with mark 0 or 1; 5 if `line_len` is not 70; 7 if `out_len` is not 70; 10 if the line is faulty: `out` is then the
+ * line as found, spare bits 0, and the mark is 4.
+ */
+uint32_t sudoku_read_line(const uint8_t *line, size_t line_len, uint8_t *out, size_t out_len, uint8_t *mark);
+
+/*
+ * Makes both parity tables from the lines, each as it reads alone.
+ *
+ * Answers: 0; 2; 5; 6; 10 if any line is faulty.
+ */
+uint32_t sudoku_make_tables(size_t rows, size_t columns, const uint8_t *lines, size_t lines_len,
+                            uint8_t *row_table, size_t row_len, uint8_t *column_table, size_t column_len);
+
+/*
+ * Writes line `n` anew from 64 data bytes and changes its two parity lines with it; no other byte changes. The old line counts
+ * as it reads alone.
+ *
+ * Answers: 0; 2; 5; 6; 7 if `data_len` is not 64; 8; 9 if one of the line's own two parity lines is not correct; 10 if the line
+ * is faulty.
+ */
+uint32_t sudoku_change_line(size_t rows, size_t columns, uint8_t *lines, size_t lines_len,
+                            uint8_t *row_table, size_t row_len, uint8_t *column_table, size_t column_len,
+                            size_t n, const uint8_t *data, size_t data_len);
+
+/*
+ * Repairs a rectangle: reads lines and tables, writes the repaired lines into `out` (rows * columns * 70 bytes) and a mark for
+ * each line into `marks` (rows * columns bytes), and sets `passes`: 0 if every line reads alone, and never more than the lines
+ * that do not.
+ *
+ * Answers: 0, 11 and 12, all with lines, marks and passes; 2; 5; 6; 7 if `out_len` or `marks_len` is another; 9 if any parity
+ * line is not correct.
+ */
+uint32_t sudoku_repair(size_t rows, size_t columns, const uint8_t *lines, size_t lines_len,
+                       const uint8_t *row_table, size_t row_len, const uint8_t *column_table, size_t column_len,
+                       uint8_t *out, size_t out_len, uint8_t *marks, size_t marks_len, uint64_t *passes);
+
+#ifdef __cplusplus
+}
+#endif
+
+#endif

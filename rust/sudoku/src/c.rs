@@ -1,0 +1,168 @@
+//! The C functions of `include/sudoku.h`, each behind a safe function that
+//! takes slices of any length and gives the numbers that C gives.
+#![allow(unsafe_code)]
+
+mod declared {
+    unsafe extern "C" {
+        pub fn sudoku_write_line(
+            data: *const u8,
+            data_len: usize,
+            line: *mut u8,
+            line_len: usize,
+        ) -> u32;
+        pub fn sudoku_read_line(
+            line: *const u8,
+            line_len: usize,
+            out: *mut u8,
+            out_len: usize,
+            mark: *mut u8,
+        ) -> u32;
+        pub fn sudoku_make_tables(
+            rows: usize,
+            columns: usize,
+            lines: *const u8,
+            lines_len: usize,
+            row_table: *mut u8,
+            row_len: usize,
+            column_table: *mut u8,
+            column_len: usize,
+        ) -> u32;
+        pub fn sudoku_change_line(
+            rows: usize,
+            columns: usize,
+            lines: *mut u8,
+            lines_len: usize,
+            row_table: *mut u8,
+            row_len: usize,
+            column_table: *mut u8,
+            column_len: usize,
+            n: usize,
+            data: *const u8,
+            data_len: usize,
+        ) -> u32;
+        pub fn sudoku_repair(
+            rows: usize,
+            columns: usize,
+            lines: *const u8,
+            lines_len: usize,
+            row_table: *const u8,
+            row_len: usize,
+            column_table: *const u8,
+            column_len: usize,
+            out: *mut u8,
+            out_len: usize,
+            marks: *mut u8,
+            marks_len: usize,
+            passes: *mut u64,
+        ) -> u32;
+    }
+}
+
+// In each call below every pointer comes from a slice or a reference together
+// with its length, and exclusive references overlap nothing: that is all that
+// the header asks.
+
+/// Writes the line of some data; gives the answer.
+pub fn write_line(data: &[u8], line: &mut [u8]) -> u32 {
+    // SAFETY: see above.
+    unsafe { declared::sudoku_write_line(data.as_ptr(), data.len(), line.as_mut_ptr(), line.len()) }
+}
+
+/// Reads one line alone; gives the answer and the mark.
+pub fn read_line(line: &[u8], out: &mut [u8]) -> (u32, u8) {
+    let mut mark = 0xEE;
+    // SAFETY: see above.
+    let answer = unsafe {
+        declared::sudoku_read_line(
+            line.as_ptr(),
+            line.len(),
+            out.as_mut_ptr(),
+            out.len(),
+            &mut mark,
+        )
+    };
+    (answer, mark)
+}
+
+/// Makes both parity tables; gives the answer.
+pub fn make_tables(
+    rows: usize,
+    columns: usize,
+    lines: &[u8],
+    row_table: &mut [u8],
+    column_table: &mut [u8],
+) -> u32 {
+    // SAFETY: see above.
+    unsafe {
+        declared::sudoku_make_tables(
+            rows,
+            columns,
+            lines.as_ptr(),
+            lines.len(),
+            row_table.as_mut_ptr(),
+            row_table.len(),
+            column_table.as_mut_ptr(),
+            column_table.len(),
+        )
+    }
+}
+
+/// Changes line `n` with its two parity lines; gives the answer.
+pub fn change_line(
+    rows: usize,
+    columns: usize,
+    lines: &mut [u8],
+    row_table: &mut [u8],
+    column_table: &mut [u8],
+    n: usize,
+    data: &[u8],
+) -> u32 {
+    // SAFETY: see above.
+    unsafe {
+        declared::sudoku_change_line(
+            rows,
+            columns,
+            lines.as_mut_ptr(),
+            lines.len(),
+            row_table.as_mut_ptr(),
+            row_table.len(),
+            column_table.as_mut_ptr(),
+            column_table.len(),
+            n,
+            data.as_ptr(),
+            data.len(),
+        )
+    }
+}
+
+/// Repairs a rectangle; gives the answer and the passes.
+pub fn repair(
+    rows: usize,
+    columns: usize,
+    lines: &[u8],
+    row_table: &[u8],
+    column_table: &[u8],
+    out: &mut [u8],
+    marks: &mut [u8],
+) -> (u32, u64) {
+    let mut passes = u64::MAX;
+    // SAFETY: see above.
+    let answer = unsafe {
+        declared::sudoku_repair(
+            rows,
+            columns,
+            lines.as_ptr(),
+            lines.len(),
+            row_table.as_ptr(),
+            row_table.len(),
+            column_table.as_ptr(),
+            column_table.len(),
+            out.as_mut_ptr(),
+            out.len(),
+            marks.as_mut_ptr(),
+            marks.len(),
+            &mut passes,
+        )
+    };
+    (answer, passes)
+}

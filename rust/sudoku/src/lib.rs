@@ -1,0 +1,56 @@
+//! A caption store whose repair is proved correct.
+//!
+//! A caption is 64 bytes of data and stands in a line of 70 bytes: the data, a
+//! 31-bit check and ten bits that find one damaged bit. A [`Store`] holds
+//! rows × columns of such lines and a parity line for each row and column, and
+//! [`Store::repair`] mends damaged lines from these. The work is done by the
+//! static library `libcapi.a`, whose functions are proved to follow the
+//! store's rules; this crate is a safe way to call it.
+//!
+//! Nothing here panics on bad input: what is refused comes back as an
+//! [`Answer`]. Calls keep no state, so threads may call at once.
+//!
+//! ```
+//! use sudoku::{Mark, Store};
+//!
+//! // Four captions in two rows and two columns.
+//! let captions = [[b'a'; 64], [b'b'; 64], [b'c'; 64], [b'd'; 64]];
+//! let mut store = Store::from_data(2, 2, &captions)?;
+//!
+//! // The first two bits of line 3 turn over: it can't be read alone.
+//! store.lines_mut()[3 * sudoku::LINE_BYTES] ^= 3;
+//! assert!(store.read(3)?.is_faulty());
+//!
+//! // Repair rebuilds it from its row.
+//! let repaired = store.repair()?;
+//! assert_eq!(repaired.marks[3], Mark::Rebuilt);
+//! assert_eq!(repaired.store.read(3)?.data(), captions[3]);
+//! # Ok::<(), sudoku::Answer>(())
+//! ```
+//!
+//! # Linking
+//!
+//! The build looks for `target/staticlib/libcapi.a` in the repository, which
+//! `rt staticlib capi` writes, or for the file that the environment variable
+//! `SUDOKU_STATICLIB` names.
+
+mod answer;
+pub mod c;
+mod line;
+mod store;
+
+pub use answer::{Answer, Mark};
+pub use line::{Read, read_line, write_line};
+pub use store::{Repaired, Store};
+
+/// Data bytes of one line.
+pub const DATA_BYTES: usize = 64;
+
+/// Bytes of one line.
+pub const LINE_BYTES: usize = 70;
+
+/// The least number of rows or columns.
+pub const LEAST_SIDE: usize = 2;
+
+/// The greatest number of rows or columns.
+pub const GREATEST_SIDE: usize = 512;

@@ -1,0 +1,68 @@
+//! One line: written from its data, and read alone.
+
+use crate::{DATA_BYTES, LINE_BYTES, Mark, c};
+
+/// The line of 64 data bytes.
+///
+/// ```
+/// let mut data = [0; 64];
+/// data[63] = 0x80;
+/// let line = sudoku::write_line(&data);
+/// assert_eq!(line[..64], data);
+/// assert_eq!(line[64..], [0xC7, 0x6F, 0x66, 0x56, 0x09, 0x00]);
+/// ```
+pub fn write_line(data: &[u8; DATA_BYTES]) -> [u8; LINE_BYTES] {
+    let mut line = [0; LINE_BYTES];
+    // With these lengths the answer is always 0.
+    c::write_line(data, &mut line);
+    line
+}
+
+/// A line as it reads alone.
+#[derive(Clone, Copy, Debug, PartialEq, Eq)]
+pub struct Read {
+    /// The line read, or the line as found if it is faulty; its spare bits
+    /// are 0.
+    pub line: [u8; LINE_BYTES],
+    /// [`Mark::Untouched`], [`Mark::Flipped`] or [`Mark::Faulty`].
+    pub mark: Mark,
+}
+
+impl Read {
+    /// The line's 64 data bytes. Those of a faulty line are damaged.
+    pub fn data(&self) -> [u8; DATA_BYTES] {
+        let mut data = [0; DATA_BYTES];
+        data.copy_from_slice(&self.line[..DATA_BYTES]);
+        data
+    }
+
+    /// Whether the line is faulty: two or more of its bits are damaged.
+    pub fn is_faulty(&self) -> bool {
+        self.mark == Mark::Faulty
+    }
+}
+
+/// Reads one line alone: one damaged bit is mended.
+///
+/// ```
+/// use sudoku::{Mark, read_line, write_line};
+///
+/// let line = write_line(&[7; 64]);
+/// let mut hurt = line;
+/// hurt[5] ^= 0x10;
+/// let read = read_line(&hurt);
+/// assert_eq!(read.mark, Mark::Flipped);
+/// assert_eq!(read.line, line);
+///
+/// hurt[9] ^= 0x01;
+/// assert!(read_line(&hurt).is_faulty());
+/// ```
+pub fn read_line(line: &[u8; LINE_BYTES]) -> Read {
+    let mut out = [0; LINE_BYTES];
+    // With these lengths the answer is 0, or 10 with mark 4.
+    let (_, mark) = c::read_line(line, &mut out);
+    Read {
+        line: out,
+        mark: Mark::from_number(mark),
+    }
+}

@@ -1,0 +1,296 @@
+//! A store that owns its lines and both parity tables.
+
+use crate::{
+    Answer, DATA_BYTES, GREATEST_SIDE, LEAST_SIDE, LINE_BYTES, Mark, Read, c, read_line, write_line,
+};
+
+/// Rows × columns of lines, and a parity line for each row and each column.
+///
+/// Its sides and the lengths of its buffers are right from the start and stay
+/// so. The bytes may be anything: [`Store::lines_mut`] and the like lend them
+/// out, as memory that may get damaged.
+#[derive(Clone, Debug, PartialEq, Eq)]
+pub struct Store {
+    rows: usize,
+    columns: usize,
+    lines: Vec<u8>,
+    row_table: Vec<u8>,
+    column_table: Vec<u8>,
+}
+
+/// What repair gives.
+#[derive(Clone, Debug, PartialEq, Eq)]
+pub struct Repaired {
+    /// [`Answer::Done`], [`Answer::Left`] or [`Answer::Differs`].
+    pub answer: Answer,
+    /// The passes over rows and columns: 0 if every line read alone.
+    pub passes: u64,
+    /// The store with its lines as repaired, and its tables as they were.
+    pub store: Store,
+    /// What happened to each line.
+    pub marks: Vec<Mark>,
+}
+
+impl Store {
+    /// A store of zero data.
+    ///
+    /// ```
+    /// use sudoku::{Answer, Store};
+    /// let store = Store::new(2, 512)?;
+    /// assert_eq!(store.lines().len(), 2 * 512 * 70);
+    /// assert_eq!(Store::new(1, 512), Err(Answer::Sides));
+    /// assert_eq!(Store::new(2, 513), Err(Answer::Sides));
+    /// # Ok::<(), Answer>(())
+    /// ```
+    ///
+    /// # Errors
+    ///
+    /// [`Answer::Sides`] if rows or columns lie outside 2 to 512.
+    pub fn new(rows: usize, columns: usize) -> Result<Store, Answer> {
+        let sides = LEAST_SIDE..=GREATEST_SIDE;
+        if !sides.contains(&rows) || !sides.contains(&columns) {
+            return Err(Answer::Sides);
+        }
+        // The line of zero data is zero, and so are its parity lines.
+        Ok(Store {
+            rows,
+            columns,
+            lines: vec![0; rows * columns * LINE_BYTES],
+            row_table: vec![0; rows * LINE_BYTES],
+            column_table: vec![0; columns * LINE_BYTES],
+        })
+    }
+
+    /// A store written from data: row after row, 64 bytes for each line.
+    ///
+    /// ```
+    /// use sudoku::{Answer, Store};
+    /// let data = [[1; 64], [2; 64], [3; 64], [4; 64]];
+    /// let store = Store::from_data(2, 2, &data)?;
+    /// assert_eq!(store.read(2)?.data(), [3; 64]);
+    /// assert_eq!(Store::from_data(2, 3, &data), Err(Answer::Buffer));
+    /// # Ok::<(), Answer>(())
+    /// ```
+    ///
+    /// # Errors
+    ///
+    /// [`Answer::Sides`]; [`Answer::Buffer`] if there aren't data for exactly
+    /// rows × columns lines.
+    pub fn from_data(
+        rows: usize,
+        columns: usize,
+        data: &[[u8; DATA_BYTES]],
+    ) -> Result<Store, Answer> {
+        let mut store = Store::new(rows, columns)?;
+        if data.len() != rows * columns {
+            return Err(Answer::Buffer);
+        }
+        for (line, data) in store.lines.chunks_exact_mut(LINE_BYTES).zip(data) {
+            line.copy_from_slice(&write_line(data));
+        }
+        store.make_tables()?;
+        Ok(store)
+    }
+
+    /// A store of these bytes, damaged or not.
+    ///
+    /// ```
+    /// use sudoku::{Answer, Store};
+    /// let store = Store::from_parts(2, 3, vec![0; 420], vec![0; 140], vec![0; 210])?;
+    /// assert_eq!(store, Store::new(2, 3)?);
+    /// let short = Store::from_parts(2, 3, vec![0; 420], vec![0; 140], vec![0; 140]);
+    /// assert_eq!(short, Err(Answer::Table));
+    /// # Ok::<(), Answer>(())
+    /// ```
+    ///
+    /// # Errors
+    ///
+    /// [`Answer::Sides`], [`Answer::Lines`] or [`Answer::Table`], the first
+    /// that fits.
+    pub fn from_parts(
+        rows: usize,
+        columns: usize,
+        lines: Vec<u8>,
+        row_table: Vec<u8>,
+        column_table: Vec<u8>,
+    ) -> Result<Store, Answer> {
+        let right = Store::new(rows, columns)?;
+        if lines.len() != right.lines.len() {
+            return Err(Answer::Lines);
+        }
+        if row_table.len() != right.row_table.len()
+            || column_table.len() != right.column_table.len()
+        {
+            return Err(Answer::Table);
+        }
+        Ok(Store {
+            rows,
+            columns,
+            lines,
+            row_table,
+            column_table,
+        })
+    }
+
+    /// The rows.
+    pub fn rows(&self) -> usize {
+        self.rows
+    }
+
+    /// The columns.
+    pub fn columns(&self) -> usize {
+        self.columns
+    }
+
+    /// How many lines there are.
+    pub fn count(&self) -> usize {
+        self.rows * self.columns
+    }
+
+    /// The bytes of all lines, row after row.
+    pub fn lines(&self) -> &[u8] {
+        &self.lines
+    }
+
+    /// The same, to be changed.
+    pub fn lines_mut(&mut self) -> &mut [u8] {
+        &mut self.lines
+    }
+
+    /// The parity lines of the rows.
+    pub fn row_table(&self) -> &[u8] {
+        &self.row_table
+    }
+
+    /// The same, to be changed.
+    pub fn row_table_mut(&mut self) -> &mut [u8] {
+        &mut self.row_table
+    }
+
+    /// The parity lines of the columns.
+    pub fn column_table(&self) -> &[u8] {
+        &self.column_table
+    }
+
+    /// The same, to be changed.
+    pub fn column_table_mut(&mut self) -> &mut [u8] {
+        &mut self.column_table
+    }
+
+    /// The bytes of line `n`, as they stand.
+    ///
+    /// # Errors
+    ///
+    /// [`Answer::Number`] if there is no such line.
+    pub fn line(&self, n: usize) -> Result<&[u8; LINE_BYTES], Answer> {
+        self.lines.as_chunks().0.get(n).ok_or(Answer::Number)
+    }
+
+    /// Line `n` as it reads alone. A faulty line is no error here: its mark
+    /// says so.
+    ///
+    /// # Errors
+    ///
+    /// [`Answer::Number`] if there is no such line.
+    pub fn read(&self, n: usize) -> Result<Read, Answer> {
+        self.line(n).map(read_line)
+    }
+
+    /// Makes both tables from the lines, each as it reads alone.
+    ///
+    /// # Errors
+    ///
+    /// [`Answer::Faulty`] if some line is faulty; the tables are then as
+    /// before.
+    pub fn make_tables(&mut self) -> Result<(), Answer> {
+        let answer = c::make_tables(
+            self.rows,
+            self.columns,
+            &self.lines,
+            &mut self.row_table,
+            &mut self.column_table,
+        );
+        Answer::from_number(answer).done()
+    }
+
+    /// Writes line `n` anew from 64 data bytes, and its two parity lines with
+    /// it.
+    ///
+    /// ```
+    /// use sudoku::{Answer, Store};
+    /// let mut store = Store::new(4, 4)?;
+    /// store.change(5, &[b'x'; 64])?;
+    /// assert_eq!(store.read(5)?.data(), [b'x'; 64]);
+    /// assert_eq!(store.change(16, &[0; 64]), Err(Answer::Number));
+    /// # Ok::<(), Answer>(())
+    /// ```
+    ///
+    /// # Errors
+    ///
+    /// [`Answer::Number`] if there is no such line; [`Answer::Parity`] if one
+    /// of its two parity lines isn't a correct line; [`Answer::Faulty`] if the
+    /// line is faulty. The store is then as before.
+    pub fn change(&mut self, n: usize, data: &[u8; DATA_BYTES]) -> Result<(), Answer> {
+        let answer = c::change_line(
+            self.rows,
+            self.columns,
+            &mut self.lines,
+            &mut self.row_table,
+            &mut self.column_table,
+            n,
+            data,
+        );
+        Answer::from_number(answer).done()
+    }
+
+    /// Repairs the lines; this store stays as it is.
+    ///
+    /// Lines that stay faulty ([`Answer::Left`]) and lines that don't agree
+    /// with the tables ([`Answer::Differs`]) are no errors here: the answer
+    /// and the marks say so.
+    ///
+    /// ```
+    /// use sudoku::{Answer, Mark, Store};
+    /// let mut store = Store::new(2, 2)?;
+    /// for n in 0..4 {
+    ///     store.lines_mut()[n * 70] ^= 3;
+    /// }
+    /// let repaired = store.repair()?;
+    /// assert_eq!(repaired.answer, Answer::Left);
+    /// assert_eq!(repaired.marks, [Mark::Faulty; 4]);
+    /// # Ok::<(), Answer>(())
+    /// ```
+    ///
+    /// # Errors
+    ///
+    /// [`Answer::Parity`] if some parity line isn't a correct line.
+    pub fn repair(&self) -> Result<Repaired, Answer> {
+        let mut lines = vec![0; self.lines.len()];
+        let mut marks = vec![0; self.count()];
+        let (answer, passes) = c::repair(
+            self.rows,
+            self.columns,
+            &self.lines,
+            &self.row_table,
+            &self.column_table,
+            &mut lines,
+            &mut marks,
+        );
+        let answer = Answer::from_number(answer);
+        if !matches!(answer, Answer::Done | Answer::Left | Answer::Differs) {
+            return Err(answer);
+        }
+        let store = Store {
+            lines,
+            row_table: self.row_table.clone(),
+            column_table: self.column_table.clone(),
+            ..*self
+        };
+        Ok(Repaired {
+            answer,
+            passes,
+            store,
+            marks: marks.into_iter().map(Mark::from_number).collect(),
+        })
+    }
+}

@@ -1,0 +1,151 @@
+//! One call made to both implementations, and all that it gives compared.
+
+use reference::draw::Call;
+
+use crate::{Guarded, Interface, Library, Reference};
+
+/// The entry points.
+#[derive(Clone, Copy, Debug, PartialEq, Eq, PartialOrd, Ord)]
+pub enum Entry {
+    /// Writing a line.
+    Write,
+    /// Reading a line alone.
+    Read,
+    /// Making both tables.
+    Tables,
+    /// Changing a line.
+    Change,
+    /// Repair.
+    Repair,
+}
+
+impl Entry {
+    /// Every entry point.
+    pub const ALL: [Entry; 5] = [
+        Entry::Write,
+        Entry::Read,
+        Entry::Tables,
+        Entry::Change,
+        Entry::Repair,
+    ];
+
+    /// The answers that it may give.
+    pub fn answers(self) -> &'static [u32] {
+        match self {
+            Entry::Write => &[0, 7],
+            Entry::Read => &[0, 5, 7, 10],
+            Entry::Tables => &[0, 2, 5, 6, 10],
+            Entry::Change => &[0, 2, 5, 6, 7, 8, 9, 10],
+            Entry::Repair => &[0, 2, 5, 6, 7, 9, 11, 12],
+        }
+    }
+}
+
+/// What a call gives: its answer, the mark or the passes, and every buffer
+/// handed in, read or written, as it is after.
+#[derive(Debug, PartialEq, Eq)]
+struct Given {
+    answer: u32,
+    number: u64,
+    buffers: Vec<Vec<u8>>,
+}
+
+/// The buffers of a call, those that are written first.
+fn buffers(entry: Entry, call: &Call) -> (Vec<&[u8]>, usize) {
+    let (lines, rows, columns) = (&call.lines, &call.row_table, &call.column_table);
+    match entry {
+        Entry::Write => (vec![&call.line_out, &call.data], 1),
+        Entry::Read => (vec![&call.line_out, &call.line], 1),
+        Entry::Tables => (vec![rows, columns, lines], 2),
+        Entry::Change => (vec![lines, rows, columns, &call.data], 3),
+        Entry::Repair => (vec![&call.out, &call.marks, lines, rows, columns], 2),
+    }
+}
+
+/// Makes the call over these buffers; gives the answer and the mark or passes.
+fn make(entry: Entry, call: &Call, on: &dyn Interface, buffers: &mut [&mut [u8]]) -> (u32, u64) {
+    let (rows, columns) = (call.rows, call.columns);
+    match (entry, buffers) {
+        (Entry::Write, [line, data]) => (on.write_line(data, line), 0),
+        (Entry::Read, [out, line]) => {
+            let (answer, mark) = on.read_line(line, out);
+            (answer, mark.into())
+        }
+        (Entry::Tables, [of_rows, of_columns, lines]) => {
+            (on.make_tables(rows, columns, lines, of_rows, of_columns), 0)
+        }
+        (Entry::Change, [lines, of_rows, of_columns, data]) => {
+            let answer = on.change_line(rows, columns, lines, of_rows, of_columns, call.n, data);
+            (answer, 0)
+        }
+        (Entry::Repair, [out, marks, lines, of_rows, of_columns]) => {
+            on.repair(rows, columns, lines, of_rows, of_columns, out, marks)
+        }
+        _ => panic!("{entry:?} has other buffers"),
+    }
+}
+
+/// The call on guarded buffers; the guard bytes must stay.
+fn guarded(entry: Entry, call: &Call, on: &dyn Interface, shift: usize) -> Given {
+    let mut guarded: Vec<Guarded> = Vec::new();
+    for (i, content) in buffers(entry, call).0.into_iter().enumerate() {
+        guarded.push(Guarded::new(content, shift + 5 * i));
+    }
+    let mut contents: Vec<&mut [u8]> = guarded.iter_mut().map(Guarded::content_mut).collect();
+    let (answer, number) = make(entry, call, on, &mut contents);
+    let name = on.name();
+    assert!(
+        guarded.iter().all(Guarded::intact),
+        "{name}, {entry:?}: a guard byte was written"
+    );
+    Given {
+        answer,
+        number,
+        buffers: guarded.iter().map(|g| g.content().to_vec()).collect(),
+    }
+}
+
+/// Makes the call on both implementations; gives the answer.
+///
+/// # Panics
+///
+/// Panics where they differ in anything, where a guard byte or a buffer that
+/// is only read was written, or where a refusal wrote something.
+pub fn compare(entry: Entry, call: &Call, shift: usize) -> u32 {
+    let library = guarded(entry, call, &Library, shift);
+    let reference = guarded(entry, call, &Reference, shift);
+    assert!(
+        library == reference,
+        "{entry:?}, {} by {}: library answers {} {}, reference {} {}, buffers {}",
+        call.rows,
+        call.columns,
+        library.answer,
+        library.number,
+        reference.answer,
+        reference.number,
+        if library.buffers == reference.buffers {
+            "equal"
+        } else {
+            "differ"
+        },
+    );
+    let (before, written) = buffers(entry, call);
+    let writes = match library.answer {
+        0 | 11 | 12 => true,
+        10 => entry == Entry::Read,
+        _ => false,
+    };
+    for (i, content) in before.into_iter().enumerate() {
+        let may_change = writes && i < written;
+        assert!(
+            may_change || library.buffers[i] == content,
+            "{entry:?}, answer {}: buffer {i} was written",
+            library.answer
+        );
+    }
+    assert!(
+        writes || library.number == 0,
+        "{entry:?}: a value after a refusal"
+    );
+    library.answer
+}

@@ -1,0 +1,164 @@
+//! The library and the second implementation, called alike.
+
+/// The five entry points over slices; each gives its answer first.
+pub trait Interface {
+    /// What failures are told by.
+    fn name(&self) -> &'static str;
+
+    /// Writes a line.
+    fn write_line(&self, data: &[u8], line: &mut [u8]) -> u32;
+
+    /// Reads a line alone; gives the mark too.
+    fn read_line(&self, line: &[u8], out: &mut [u8]) -> (u32, u8);
+
+    /// Makes both tables.
+    fn make_tables(
+        &self,
+        rows: usize,
+        columns: usize,
+        lines: &[u8],
+        row_table: &mut [u8],
+        column_table: &mut [u8],
+    ) -> u32;
+
+    /// Changes a line.
+    #[allow(clippy::too_many_arguments)]
+    fn change_line(
+        &self,
+        rows: usize,
+        columns: usize,
+        lines: &mut [u8],
+        row_table: &mut [u8],
+        column_table: &mut [u8],
+        n: usize,
+        data: &[u8],
+    ) -> u32;
+
+    /// Repairs; gives the passes too.
+    #[allow(clippy::too_many_arguments)]
+    fn repair(
+        &self,
+        rows: usize,
+        columns: usize,
+        lines: &[u8],
+        row_table: &[u8],
+        column_table: &[u8],
+        out: &mut [u8],
+        marks: &mut [u8],
+    ) -> (u32, u64);
+}
+
+/// Both implementations, for tests that each has to pass.
+pub fn both() -> [&'static dyn Interface; 2] {
+    [&Library, &Reference]
+}
+
+/// The proved library.
+pub struct Library;
+
+impl Interface for Library {
+    fn name(&self) -> &'static str {
+        "library"
+    }
+
+    fn write_line(&self, data: &[u8], line: &mut [u8]) -> u32 {
+        sudoku::c::write_line(data, line)
+    }
+
+    fn read_line(&self, line: &[u8], out: &mut [u8]) -> (u32, u8) {
+        sudoku::c::read_line(line, out)
+    }
+
+    fn make_tables(
+        &self,
+        rows: usize,
+        columns: usize,
+        lines: &[u8],
+        row_table: &mut [u8],
+        column_table: &mut [u8],
+    ) -> u32 {
+        sudoku::c::make_tables(rows, columns, lines, row_table, column_table)
+    }
+
+    fn change_line(
+        &self,
+        rows: usize,
+        columns: usize,
+        lines: &mut [u8],
+        row_table: &mut [u8],
+        column_table: &mut [u8],
+        n: usize,
+        data: &[u8],
+    ) -> u32 {
+        sudoku::c::change_line(rows, columns, lines, row_table, column_table, n, data)
+    }
+
+    fn repair(
+        &self,
+        rows: usize,
+        columns: usize,
+        lines: &[u8],
+        row_table: &[u8],
+        column_table: &[u8],
+        out: &mut [u8],
+        marks: &mut [u8],
+    ) -> (u32, u64) {
+        sudoku::c::repair(rows, columns, lines, row_table, column_table, out, marks)
+    }
+}
+
+/// The second implementation.
+pub struct Reference;
+
+impl Interface for Reference {
+    fn name(&self) -> &'static str {
+        "reference"
+    }
+
+    fn write_line(&self, data: &[u8], line: &mut [u8]) -> u32 {
+        reference::write_line(data, line)
+    }
+
+    fn read_line(&self, line: &[u8], out: &mut [u8]) -> (u32, u8) {
+        let read = reference::read_line(line, out);
+        (read.answer, read.mark)
+    }
+
+    fn make_tables(
+        &self,
+        rows: usize,
+        columns: usize,
+        lines: &[u8],
+        row_table: &mut [u8],
+        column_table: &mut [u8],
+    ) -> u32 {
+        reference::make_tables(rows, columns, lines, row_table, column_table)
+    }
+
+    fn change_line(
+        &self,
+        rows: usize,
+        columns: usize,
+        lines: &mut [u8],
+        row_table: &mut [u8],
+        column_table: &mut [u8],
+        n: usize,
+        data: &[u8],
+    ) -> u32 {
+        reference::change_line(rows, columns, lines, row_table, column_table, n, data)
+    }
+
+    fn repair(
+        &self,
+        rows: usize,
+        columns: usize,
+        lines: &[u8],
+        row_table: &[u8],
+        column_table: &[u8],
+        out: &mut [u8],
+        marks: &mut [u8],
+    ) -> (u32, u64) {
+        let given = reference::repair(rows, columns, lines, row_table, column_table, out, marks);
+        (given.answer, given.passes)
+    }
+}

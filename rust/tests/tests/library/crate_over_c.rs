@@ -1,0 +1,125 @@
+//! The safe crate: its store does what the second implementation does, bad
+//! input comes back as an answer, and threads may call at once.
+
+use library_tests::seed;
+use reference::draw;
+use reference::random::Random;
+use sudoku::{Answer, LINE_BYTES, Mark, Store, read_line, write_line};
+
+/// The crate's store of these bytes.
+fn store_of(drawn: &draw::Store) -> Store {
+    Store::from_parts(
+        drawn.rows,
+        drawn.columns,
+        drawn.lines.clone(),
+        drawn.row_table.clone(),
+        drawn.column_table.clone(),
+    )
+    .expect("right lengths")
+}
+
+#[test]
+fn numbers_and_names_of_answers_and_marks() {
+    for number in 0..20 {
+        assert_eq!(Answer::from_number(number).number(), number);
+        assert_eq!(
+            number > 12,
+            matches!(Answer::from_number(number), Answer::Other(_))
+        );
+    }
+    for number in 0..=255 {
+        assert_eq!(Mark::from_number(number).number(), number);
+    }
+    assert_eq!(Answer::Done.done(), Ok(()));
+    assert_eq!(Answer::Left.done(), Err(Answer::Left));
+    assert_eq!(Answer::Left.to_string(), "faulty lines are left");
+}
+
+#[test]
+fn repair_of_a_store() {
+    let mut random = Random::new(seed());
+    for _ in 0..300 {
+        let drawn = draw::hurt_store(&mut random, 6);
+        let expected = drawn.repaired(0);
+        match store_of(&drawn).repair() {
+            Ok(repaired) => {
+                assert_eq!(repaired.answer.number(), expected.answer);
+                assert_eq!(repaired.passes, expected.passes);
+                assert_eq!(repaired.store.lines(), expected.lines);
+                assert_eq!(repaired.store.row_table(), drawn.row_table);
+                let marks: Vec<u8> = repaired.marks.iter().map(|mark| mark.number()).collect();
+                assert_eq!(marks, expected.marks);
+            }
+            Err(answer) => assert_eq!(answer.number(), expected.answer),
+        }
+    }
+}
+
+#[test]
+fn writing_reading_and_changing() {
+    let mut random = Random::new(seed());
+    let data: Vec<[u8; 64]> = (0..12)
+        .map(|_| {
+            let mut data = [0; 64];
+            random.fill(&mut data);
+            data
+        })
+        .collect();
+    let mut store = Store::from_data(3, 4, &data).expect("three by four");
+    for (n, data) in data.iter().enumerate() {
+        assert_eq!(store.line(n), Ok(&write_line(data)));
+        let read = store.read(n).expect("a line");
+        assert_eq!((read.data(), read.mark), (*data, Mark::Untouched));
+    }
+    store.change(7, &[9; 64]).expect("a change");
+    let mut anew = store.clone();
+    anew.make_tables().expect("tables");
+    assert_eq!(anew, store);
+    let mut hurt = write_line(&[9; 64]);
+    hurt[0] ^= 1;
+    assert_eq!(read_line(&hurt).mark, Mark::Flipped);
+}
+
+#[test]
+fn bad_input_comes_back_as_an_answer() {
+    assert_eq!(Store::new(0, 5), Err(Answer::Sides));
+    assert_eq!(Store::new(usize::MAX, usize::MAX), Err(Answer::Sides));
+    assert_eq!(Store::from_data(2, 2, &[]), Err(Answer::Buffer));
+    let parts = |lines, rows, columns| {
+        Store::from_parts(2, 2, vec![0; lines], vec![0; rows], vec![0; columns])
+    };
+    assert_eq!(parts(279, 140, 140), Err(Answer::Lines));
+    assert_eq!(parts(280, 141, 140), Err(Answer::Table));
+    assert_eq!(parts(280, 140, 0), Err(Answer::Table));
+
+    let mut store = Store::new(2, 2).expect("two by two");
+    assert_eq!(store.read(4), Err(Answer::Number));
+    assert_eq!(store.line(usize::MAX), Err(Answer::Number));
+    assert_eq!(store.change(4, &[0; 64]), Err(Answer::Number));
+    store.lines_mut()[LINE_BYTES] ^= 3;
+    let before = store.clone();
+    assert_eq!(store.change(1, &[1; 64]), Err(Answer::Faulty));
+    assert_eq!(store.make_tables(), Err(Answer::Faulty));
+    assert_eq!(store, before);
+    store.column_table_mut()[0] ^= 1;
+    assert_eq!(store.change(2, &[1; 64]), Err(Answer::Parity));
+    assert_eq!(store.repair(), Err(Answer::Parity));
+}
+
+#[test]
+fn threads_call_at_once() {
+    std::thread::scope(|scope| {
+        for thread in 0..4 {
+            scope.spawn(move || {
+                let mut random = Random::new(seed() + thread);
+                for _ in 0..50 {
+                    let drawn = draw::hurt_store(&mut random, 5);
+                    let expected = drawn.repaired(0);
+                    if let Ok(repaired) = store_of(&drawn).repair() {
+                        assert_eq!(repaired.store.lines(), expected.lines);
+                    }
+                }
+            });
+        }
+    });
+}

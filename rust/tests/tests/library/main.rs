@@ -1,0 +1,13 @@
+//! The library against document 01's samples and against the second
+//! implementation. All tests are one binary, so that it can be run once more
+//! under a memory checker.
+//!
+//! `SUDOKU_PERCENT` sets how many cases are drawn, in percent of the usual
+//! number, `SUDOKU_SEED` the seed, and `SUDOKU_MEMCHECK` says that a memory
+//! checker watches.
+
+mod crate_over_c;
+mod demands;
+mod differential;
+mod samples;
+mod storecheck;

@@ -1,0 +1,63 @@
+//! The program `storecheck` against the second implementation's report, on
+//! drawn files, truncated and spoilt ones too.
+
+use std::io::Write;
+use std::path::{Path, PathBuf};
+use std::process::{Command, Stdio};
+
+use library_tests::{cases, seed};
+use reference::draw::{self, Store};
+use reference::random::Random;
+
+/// Where the program is built: `target/bin/storecheck` of the repository, or
+/// what `SUDOKU_STORECHECK` says.
+fn program() -> Option<PathBuf> {
+    let path = match std::env::var_os("SUDOKU_STORECHECK") {
+        Some(path) => PathBuf::from(path),
+        None => Path::new(env!("CARGO_MANIFEST_DIR")).join("../../target/bin/storecheck"),
+    };
+    path.exists().then_some(path)
+}
+
+/// What the program prints for this file.
+fn printed(program: &Path, file: &[u8]) -> String {
+    let mut child = Command::new(program)
+        .stdin(Stdio::piped())
+        .stdout(Stdio::piped())
+        .spawn()
+        .expect("storecheck starts");
+    if let Some(mut stdin) = child.stdin.take() {
+        // It may stop reading before the end, as for a file that is too long.
+        let _ = stdin.write_all(file);
+    }
+    let output = child.wait_with_output().expect("storecheck ends");
+    String::from_utf8_lossy(&output.stdout).into_owned()
+}
+
+/// The samples and edges of document 01 that are about files.
+fn samples() -> Vec<Vec<u8>> {
+    let zero = Store::zero(2, 2).file();
+    let mut files = vec![zero[..27].to_vec(), zero[..28].to_vec(), Vec::new(), zero];
+    for (rows, columns) in [(16, 16), (17, 2), (2, 17), (1, 2), (2, 513), (512, 512)] {
+        files.push(Store::zero(rows, columns).file());
+    }
+    files
+}
+
+#[test]
+fn storecheck_agrees() {
+    let Some(program) = program() else {
+        println!("storecheck: skipped, target/bin/storecheck is not built");
+        return;
+    };
+    let mut random = Random::new(seed());
+    let mut files = samples();
+    for _ in 0..cases(2_000) {
+        files.push(draw::store_file(&mut random));
+    }
+    for (i, file) in files.iter().enumerate() {
+        let expected = reference::storecheck(file);
+        assert_eq!(printed(&program, file), expected, "file {i}");
+    }
+    println!("storecheck: {} files", files.len());
+}
