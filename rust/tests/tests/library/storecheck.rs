@@ -11,12 +11,16 @@ use reference::random::Random;
 
 /// Where the program is built: `target/bin/storecheck` of the repository, or
 /// what `SUDOKU_STORECHECK` says.
-fn program() -> Option<PathBuf> {
-    let path = match std::env::var_os("SUDOKU_STORECHECK") {
+fn program() -> PathBuf {
+    match std::env::var_os("SUDOKU_STORECHECK") {
         Some(path) => PathBuf::from(path),
-        None => Path::new(env!("CARGO_MANIFEST_DIR")).join("../../target/bin/storecheck"),
-    };
-    path.exists().then_some(path)
+        None => root().join("target/bin/storecheck"),
+    }
+}
+
+/// The repository's root.
+fn root() -> PathBuf {
+    Path::new(env!("CARGO_MANIFEST_DIR")).join("../..")
 }
 
 /// What the program prints for this file.
@@ -25,7 +29,7 @@ fn printed(program: &Path, file: &[u8]) -> String {
         .stdin(Stdio::piped())
         .stdout(Stdio::piped())
         .spawn()
-        .expect("storecheck starts");
+        .expect("storecheck is built by `rt check storecheck`");
     if let Some(mut stdin) = child.stdin.take() {
         // It may stop reading before the end, as for a file that is too long.
         let _ = stdin.write_all(file);
@@ -46,10 +50,7 @@ fn samples() -> Vec<Vec<u8>> {
 
 #[test]
 fn storecheck_agrees() {
-    let Some(program) = program() else {
-        println!("storecheck: skipped, target/bin/storecheck is not built");
-        return;
-    };
+    let program = program();
     let mut random = Random::new(seed());
     let mut files = samples();
     for _ in 0..cases(2_000) {
@@ -60,4 +61,14 @@ fn storecheck_agrees() {
         assert_eq!(printed(&program, file), expected, "file {i}");
     }
     println!("storecheck: {} files", files.len());
+}
+
+#[test]
+fn examples_have_their_reports() {
+    for name in ["clean", "hurt", "lost", "misplaced"] {
+        let path = root().join("examples").join(name);
+        let file = std::fs::read(path.with_extension("store")).expect("an example");
+        let report = std::fs::read_to_string(path.with_extension("report")).expect("its report");
+        assert_eq!(reference::storecheck(&file), report, "{name}");
+    }
 }
