@@ -1,4 +1,5 @@
-// Numbers in bytes, little-endian, and bytes put into a buffer. Each function asks that its bytes lie inside the slice.
+// Numbers in bytes, little-endian, and bytes put into a buffer. Public for the crate's other modules, not entry points: each function
+// asks that its bytes lie inside the slice, which the entry points have tested.
 ghost use mathlib.Core.Path.{_≡_};
 ghost use Prim.Native.Nat.{_+_, _≤_};
 ghost use lib.ListN.{length};
