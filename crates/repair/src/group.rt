@@ -1,5 +1,6 @@
 // A group of lines, given as the first line's number, the step from one to the next, and their count: a row or a column.
 // What is asked of it: its lines lie inside the buffers.
+// Public for the crate's other modules, not entry points: what they ask of the buffers, `repair::repair` has tested.
 ghost use mathlib.Core.Path.{_≡_};
 ghost use Prim.Native.Nat.{_/_};
 ghost use lib.ListN.{length, getD};

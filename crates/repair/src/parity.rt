@@ -1,4 +1,5 @@
 // The parity lines: whether each is a correct line, and whether each is that of the lines as they stand.
+// Public for the crate's other modules, not entry points: what they ask of the buffers, `repair::repair` has tested.
 ghost use mathlib.Core.Path.{_≡_};
 ghost use Prim.Native.Nat.{_*_, _/_};
 ghost use lib.ListN.{length};

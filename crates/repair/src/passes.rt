@@ -1,4 +1,5 @@
 // The first reading, and passes over all groups: rows 0 upward, then columns 0 upward. Document 01, "Repair".
+// Public for the crate's other modules, not entry points: what they ask of the buffers, `repair::repair` has tested.
 ghost use mathlib.Core.Path.{_≡_};
 ghost use mathlib.Core.List.{map};
 ghost use Prim.Native.Nat.{_*_};

@@ -1,4 +1,5 @@
 // A visit of one group: the trials, and the rebuilding of a line that is left alone. Document 01, "Repair".
+// Public for the crate's other modules, not entry points: what they ask of the buffers, `repair::repair` has tested.
 ghost use mathlib.Core.Path.{_≡_};
 ghost use Prim.Native.Nat.{_≤_};
 ghost use lib.ListN.{length, take};
