@@ -15,9 +15,9 @@ use Rattle.gf2.proofs.Same.{same-refl, same-equal, same-append, same-comm, same
 use Rattle.gf2.proofs.Crc.{length-crc, divisible-crc}
 use Rattle.linecode.specs.Places.{dataPlaces, protectedPlaces, linePlaces, places, lineOf}
 use Rattle.linecode.specs.Code.{protected, dataOf, storedCrc, storedHamming, accepted, positions, hamming, withCrc, withHamming, codeword, isCorrect, Correct}
-use Rattle.linecode.proofs.Line.{protected-is, data-is, places-is, protected-lineOf}
+use Rattle.linecode.proofs.Line.{protected-is, data-is, places-is, protected-lineOf, length-places}
 use Rattle.linecode.proofs.Positions.{hamming-digits, position-sum-lt}
-use Rattle.linecode.proofs.CrcTable.{length-generator}
+use Rattle.linecode.proofs.Slicing.{length-generator}
 
 -- ---- the CRC as a number
 pub crc-number-lt : (d : Word) → number (crc generator d) < 2147483648
@@ -148,3 +148,13 @@ module _ (d : Word) (full : length d ≡ dataPlaces) where
   dataOf-codeword =
       ap (take dataPlaces) (append-assoc d (crc generator d) (hamming (withCrc d)))
       ∙ take-at d (crc generator d ++ hamming (withCrc d)) dataPlaces full
+
+-- the CRC worked out and the stored one are the same number exactly where the word is divisible
+pub crc-agrees : (l : List ℕ) (worked stored : ℕ) → length l ≡ 70 → worked ≡ number (crc generator (dataOf (places l)))
+    → stored ≡ number (storedCrc (places l)) → eqb worked stored ≡ accepted (places l)
+crc-agrees l worked stored e f g =
+    let w = places l in
+    let whole = length-places l e in
+    ap₂ eqb f g
+    ∙ same-number (crc generator (dataOf w)) (storedCrc w) (length-crc generator (dataOf w) ∙ sym (length-storedCrc w whole))
+    ∙ sym (accepted-crc w whole)

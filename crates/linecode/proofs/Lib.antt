@@ -11,3 +11,6 @@ pub mod ReadAlone
 pub mod Entry
 pub mod Lines
 pub mod Promises
+pub mod Slicing
+pub mod TableRule
+pub mod Feeding

@@ -4,9 +4,11 @@ use crate::hamming;
 use crate::hamming::Answer;
 use crate::place;
 ghost use mathlib.Core.Path.{_≡_};
+ghost use mathlib.Core.Bool.{false};
 ghost use Rattle.linecode.specs.Places.{places, lineOf};
-ghost use Rattle.linecode.specs.Code.{dataOf, codeword, isCorrect};
+ghost use Rattle.linecode.specs.Code.{dataOf, codeword, accepted, isCorrect};
 ghost use Rattle.linecode.specs.Entry.{written, reading};
+ghost use Rattle.linecode.specs.Slices.{sliceTable};
 
 // A line as it reads alone, and its mark: 0 untouched, 1 after a flip, 4 faulty.
 pub struct Reading {
@@ -28,16 +30,11 @@ pub fn write_line(payload: [u8; 64]) -> [u8; 70]
     rewrite(place::load(&payload))
 }
 
-// A line read alone: the CRC compared, the corrector, the CRC compared once more.
-pub fn read_line(line: [u8; 70]) -> Reading
+// A line whose protected word is not divisible, read alone: the corrector, then the CRC compared once more.
+fn read_hurt(line: [u8; 70]) -> Reading
+    requires { ⌜ accepted (places line) ≡ false ⌝ }
     ensures { λ r. ⌜ r ≡ reading line ⌝ }
 {
-    if crc::agrees(line) {
-        return Reading {
-            line: hamming::append(line),
-            mark: 0,
-        };
-    }
     let Answer::Protected(i) = hamming::answer_to(hamming::syndrome_of(line)) else {
         return Reading {
             line: place::clear_spare(line),
@@ -55,6 +52,33 @@ pub fn read_line(line: [u8; 70]) -> Reading
         line: place::clear_spare(line),
         mark: 4,
     }
+}
+
+// A line read alone: the CRC compared, and where it differs the corrector.
+pub fn read_line(line: [u8; 70]) -> Reading
+    ensures { λ r. ⌜ r ≡ reading line ⌝ }
+{
+    if crc::agrees(line) {
+        return Reading {
+            line: hamming::append(line),
+            mark: 0,
+        };
+    }
+    read_hurt(line)
+}
+
+// The same with a lent table, for many lines.
+pub fn read_by(slices: &[u32; 4096], line: [u8; 70]) -> Reading
+    requires { ⌜ now slices ≡ sliceTable ⌝ }
+    ensures { λ r. ⌜ r ≡ reading line ⌝ }
+{
+    if crc::agrees_by(slices, line) {
+        return Reading {
+            line: hamming::append(line),
+            mark: 0,
+        };
+    }
+    read_hurt(line)
 }
 
 // Whether the places of a line are what writing its data gives.

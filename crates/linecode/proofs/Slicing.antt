@@ -1,0 +1,210 @@
+-- The CRC some bytes at a step: the register's number after them is an exclusive or of table entries, one for each byte.
+use mathlib.Core.Path.{_≡_, refl, sym, ap, ap₂, _∙_, subst}
+use mathlib.Core.Bool.{Bool}
+use mathlib.Core.List.{List, [], _∷_, _++_, map}
+use Prim.Native.Nat.{ℕ, zero, suc, _+_, _*_, _/_, _%_, _^_, _≤_, _<_}
+use native.Mathlib.Nat.{not-suc-le-zero, le-of-suc-le-suc, zero-add, suc-add, add-suc, div-eq-of-lt, mod-eq-of-lt}
+use native.Mathlib.Omega.{arith}
+use lib.Bits.{bitXor, xor-lt, xor-comm, xor-zero-l, xor-zero-r, xor-shr, xor-mod}
+use lib.ListN.{length}
+use lib.Pow.{shr-shr}
+use Rattle.gf2.specs.Word.{Word, _⊕_, zeros, digits, number}
+use Rattle.gf2.specs.Polynomial.{divide}
+use Rattle.gf2.specs.Generator.{generator}
+use Rattle.gf2.proofs.Crc.{zeros-xor}
+use Rattle.gf2.proofs.Digits.{length-digits, digits-number, digits-zero, digits-xor, number-lt, number-small, bitXor-assoc}
+use Rattle.gf2.proofs.Linear.{length-divide, divide-xor}
+use Rattle.gf2.proofs.Register.{feed, feed-append, feed-zeros, feed-digits}
+use Rattle.linecode.specs.Places.{bitsOf}
+use Rattle.linecode.specs.Code.{upFrom}
+use Rattle.linecode.specs.Slices.{eightSteps, next, fed, after}
+use Rattle.linecode.proofs.Bytes.{Bytes}
+
+pub length-generator : length generator ≡ 31
+unfolding generator
+length-generator = refl
+
+-- ---- eight steps of the register
+digits-same : (k a b : ℕ) → a < 2 ^ k → b < 2 ^ k → digits k a ≡ digits k b → a ≡ b
+digits-same k a b h j e = sym (number-small k a h) ∙ ap number e ∙ number-small k b j
+
+length-eight : (n : ℕ) → length (divide generator (digits 31 n) (zeros 8)) ≡ 31
+length-eight n =
+    length-divide generator (digits 31 n) (zeros 8) (length-digits 31 n ∙ sym length-generator) ∙ length-generator
+
+digits-eight : (n : ℕ) → digits 31 (eightSteps n) ≡ divide generator (digits 31 n) (zeros 8)
+digits-eight n =
+    ap (λ (k : ℕ). digits k (eightSteps n)) (sym (length-eight n)) ∙ digits-number (divide generator (digits 31 n) (zeros 8))
+
+pub eight-lt : (n : ℕ) → eightSteps n < 2 ^ 31
+eight-lt n =
+    subst (λ (k : ℕ). eightSteps n < 2 ^ k) (length-eight n) (number-lt (divide generator (digits 31 n) (zeros 8)))
+
+eight-xor : (a b : ℕ) → eightSteps (bitXor a b) ≡ bitXor (eightSteps a) (eightSteps b)
+eight-xor a b =
+    digits-same 31 (eightSteps (bitXor a b)) (bitXor (eightSteps a) (eightSteps b)) (eight-lt (bitXor a b))
+    (xor-lt 31 (eightSteps a) (eightSteps b) (eight-lt a) (eight-lt b))
+    (digits-eight (bitXor a b)
+    ∙ ap₂ (divide generator) (digits-xor 31 a b) (sym (zeros-xor 8 (zeros 8) refl))
+    ∙ divide-xor generator (digits 31 a) (digits 31 b) (zeros 8) (zeros 8) (length-digits 31 a ∙ sym (length-digits 31 b)) refl
+    ∙ ap₂ _⊕_ (sym (digits-eight a)) (sym (digits-eight b))
+    ∙ sym (digits-xor 31 (eightSteps a) (eightSteps b)))
+
+less : (r : ℕ) → r < 2 ^ 31 → r / 256 < 2 ^ 31
+less r h = omega arith
+
+pub next-lt : (r b : ℕ) → r < 2 ^ 31 → next r b < 2 ^ 31
+next-lt r b h = xor-lt 31 (eightSteps (bitXor r b % 256)) (r / 256) (eight-lt (bitXor r b % 256)) (less r h)
+
+feed-byte : (r b : ℕ) → r < 2 ^ 31 → feed generator (digits 31 r) (digits 8 b) ≡ digits 31 (next r b)
+feed-byte r b h =
+    feed-digits generator 8 23 r b length-generator h
+    ∙ ap (λ (w : Word). w ⊕ digits 31 (r / 256)) (sym (digits-eight (bitXor r b % 256)))
+    ∙ sym (digits-xor 31 (eightSteps (bitXor r b % 256)) (r / 256))
+
+-- eight steps go by the low byte, and what is above it moves down
+pub eight-split : (s : ℕ) → s < 2 ^ 31 → eightSteps s ≡ bitXor (eightSteps (s % 256)) (s / 256)
+eight-split s h =
+    digits-same 31 (eightSteps s) (bitXor (eightSteps (s % 256)) (s / 256)) (eight-lt s)
+    (xor-lt 31 (eightSteps (s % 256)) (s / 256) (eight-lt (s % 256)) (less s h))
+    (digits-eight s
+    ∙ sym (feed-zeros generator (digits 31 s) 8)
+    ∙ ap (feed generator (digits 31 s)) (sym (digits-zero 8))
+    ∙ feed-byte s 0 h
+    ∙ ap (λ (n : ℕ). digits 31 (bitXor (eightSteps (n % 256)) (s / 256))) (xor-zero-r s))
+
+-- the register after so many bytes that are 0
+abbrev pub times : ℕ → ℕ → ℕ
+times zero n = n
+times (suc k) n = times k (eightSteps n)
+
+fed-lt : (r : ℕ) (bs : List ℕ) → r < 2 ^ 31 → fed r bs < 2 ^ 31
+fed-lt r [] h = h
+fed-lt r (b ∷ bs) h = fed-lt (next r b) bs (next-lt r b h)
+
+feed-fed : (r : ℕ) (bs : List ℕ) → r < 2 ^ 31 → feed generator (digits 31 r) (bitsOf bs) ≡ digits 31 (fed r bs)
+feed-fed r [] h = refl
+feed-fed r (b ∷ bs) h =
+    feed-append generator (digits 31 r) (digits 8 b) (bitsOf bs)
+    ∙ ap (λ (w : Word). feed generator w (bitsOf bs)) (feed-byte r b h)
+    ∙ feed-fed (next r b) bs (next-lt r b h)
+
+pub after-lt : (r : ℕ) (bs : List ℕ) → r < 2 ^ 31 → after r bs < 2 ^ 31
+unfolding after
+after-lt r bs h = fed-lt r bs h
+
+pub feed-after : (r : ℕ) (bs : List ℕ) → r < 2 ^ 31 → feed generator (digits 31 r) (bitsOf bs) ≡ digits 31 (after r bs)
+unfolding after
+feed-after r bs h = feed-fed r bs h
+
+-- ---- what stood in the register comes through apart from the bytes
+four : (a b c d : ℕ) → bitXor (bitXor a b) (bitXor c d) ≡ bitXor (bitXor a c) (bitXor b d)
+four a b c d =
+    bitXor-assoc a b (bitXor c d)
+    ∙ ap (bitXor a) (sym (bitXor-assoc b c d) ∙ ap (λ (n : ℕ). bitXor n d) (xor-comm b c) ∙ bitXor-assoc c b d)
+    ∙ sym (bitXor-assoc a c (bitXor b d))
+
+next-xor : (s r b : ℕ) → s < 2 ^ 31 → next (bitXor s r) b ≡ bitXor (eightSteps s) (next r b)
+next-xor s r b h =
+    ap₂ bitXor
+    (ap eightSteps (ap (λ (n : ℕ). n % 256) (bitXor-assoc s r b) ∙ xor-mod s (bitXor r b) 8)
+    ∙ eight-xor (s % 256) (bitXor r b % 256))
+    (xor-shr s r 8)
+    ∙ four (eightSteps (s % 256)) (eightSteps (bitXor r b % 256)) (s / 256) (r / 256)
+    ∙ ap (λ (n : ℕ). bitXor n (next r b)) (sym (eight-split s h))
+
+fed-xor : (s r : ℕ) (bs : List ℕ) → s < 2 ^ 31 → fed (bitXor s r) bs ≡ bitXor (fed r bs) (times (length bs) s)
+fed-xor s r [] h = xor-comm s r
+fed-xor s r (b ∷ bs) h =
+    ap (λ (n : ℕ). fed n bs) (next-xor s r b h) ∙ fed-xor (eightSteps s) (next r b) bs (eight-lt s)
+
+-- a byte first: its table entry, and the rest with what the register keeps
+fed-byte : (r b : ℕ) (bs : List ℕ)
+    → fed r (b ∷ bs) ≡ bitXor (fed (r / 256) bs) (times (suc (length bs)) (bitXor r b % 256))
+fed-byte r b bs = fed-xor (eightSteps (bitXor r b % 256)) (r / 256) bs (eight-lt (bitXor r b % 256))
+
+-- bytes that meet an empty register, the last one's entry first
+abbrev pub late : (ℕ → ℕ → ℕ) → List ℕ → ℕ
+late entry [] = 0
+late entry (b ∷ []) = entry 0 b
+late entry (b ∷ c ∷ bs) = bitXor (late entry (c ∷ bs)) (entry (suc (length bs)) b)
+
+fed-zero : (entry : ℕ → ℕ → ℕ) (n : ℕ) → ((k b : ℕ) → k < n → b < 256 → entry k b ≡ times (suc k) b)
+    → (bs : List ℕ) → length bs ≤ n → Bytes bs → fed 0 bs ≡ late entry bs
+fed-zero entry n rule [] h p = refl
+fed-zero entry n rule (b ∷ []) h p =
+    xor-zero-r (eightSteps (bitXor 0 b % 256))
+    ∙ ap eightSteps (ap (λ (m : ℕ). m % 256) (xor-zero-l b) ∙ mod-eq-of-lt (p .0))
+    ∙ sym (rule 0 b (omega arith) (p .0))
+fed-zero entry n rule (b ∷ c ∷ bs) h p =
+    fed-byte 0 b (c ∷ bs)
+    ∙ ap₂ bitXor (fed-zero entry n rule (c ∷ bs) (omega arith) (p .1))
+    (ap (times (suc (suc (length bs)))) (ap (λ (m : ℕ). m % 256) (xor-zero-l b) ∙ mod-eq-of-lt (p .0))
+    ∙ sym (rule (suc (length bs)) b (omega arith) (p .0)))
+
+-- ---- sixteen bytes: those that meet the register are added to it first
+low-byte : (r b h : ℕ) → b < 256 → bitXor r (b + 256 * h) % 256 ≡ bitXor r b % 256
+low-byte r b h j = xor-mod r (b + 256 * h) 8 ∙ ap (bitXor (r % 256)) (same b h j) ∙ sym (xor-mod r b 8)
+  where
+    same : (b h : ℕ) → b < 256 → (b + 256 * h) % 256 ≡ b % 256
+    same b h j = omega arith
+
+above : (r b h : ℕ) → b < 256 → bitXor r (b + 256 * h) / 256 ≡ bitXor (r / 256) h
+above r b h j = xor-shr r (b + 256 * h) 8 ∙ ap (bitXor (r / 256)) (quotient b h j)
+  where
+    quotient : (b h : ℕ) → b < 256 → (b + 256 * h) / 256 ≡ h
+    quotient b h j = omega arith
+
+-- byte k of a register that some bytes are added to
+first-byte : (r b c d e : ℕ) → b < 256 → bitXor r (b + 256 * (c + 256 * (d + 256 * e))) % 256 ≡ bitXor r b % 256
+first-byte r b c d e h = low-byte r b (c + 256 * (d + 256 * e)) h
+
+second-byte : (r b c d e : ℕ) → b < 256 → c < 256
+    → bitXor r (b + 256 * (c + 256 * (d + 256 * e))) / 256 % 256 ≡ bitXor (r / 256) c % 256
+second-byte r b c d e h i =
+    ap (λ (n : ℕ). n % 256) (above r b (c + 256 * (d + 256 * e)) h) ∙ low-byte (r / 256) c (d + 256 * e) i
+
+third-byte : (r b c d e : ℕ) → b < 256 → c < 256 → d < 256
+    → bitXor r (b + 256 * (c + 256 * (d + 256 * e))) / 65536 % 256 ≡ bitXor (r / 256 / 256) d % 256
+third-byte r b c d e h i j =
+    ap (λ (n : ℕ). n % 256)
+    (sym (shr-shr (bitXor r (b + 256 * (c + 256 * (d + 256 * e)))) 8 8)
+    ∙ ap (λ (n : ℕ). n / 256) (above r b (c + 256 * (d + 256 * e)) h)
+    ∙ above (r / 256) c (d + 256 * e) i)
+    ∙ low-byte (r / 256 / 256) d e j
+
+fourth-byte : (r b c d e : ℕ) → b < 256 → c < 256 → d < 256
+    → bitXor r (b + 256 * (c + 256 * (d + 256 * e))) / 16777216 % 256 ≡ bitXor (r / 256 / 256 / 256) e % 256
+fourth-byte r b c d e h i j =
+    ap (λ (n : ℕ). n % 256)
+    (sym (shr-shr (bitXor r (b + 256 * (c + 256 * (d + 256 * e)))) 8 16)
+    ∙ ap (λ (n : ℕ). n / 65536) (above r b (c + 256 * (d + 256 * e)) h)
+    ∙ sym (shr-shr (bitXor (r / 256) (c + 256 * (d + 256 * e))) 8 8)
+    ∙ ap (λ (n : ℕ). n / 256) (above (r / 256) c (d + 256 * e) i)
+    ∙ above (r / 256 / 256) d e j)
+
+pub after-sixteen : (entry : ℕ → ℕ → ℕ) → ((k b : ℕ) → k < 16 → b < 256 → entry k b ≡ times (suc k) b)
+    → (r x b c d e : ℕ) (bs : List ℕ) → r < 2 ^ 31 → x ≡ bitXor r (b + 256 * (c + 256 * (d + 256 * e)))
+    → length bs ≡ 12 → Bytes (b ∷ c ∷ d ∷ e ∷ bs)
+    → bitXor (bitXor (bitXor (bitXor (late entry bs) (entry 12 (x / 16777216 % 256))) (entry 13 (x / 65536 % 256))) (entry 14 (x / 256 % 256))) (entry 15 (x % 256))
+    ≡ after r (b ∷ c ∷ d ∷ e ∷ bs)
+unfolding after
+after-sixteen entry rule r x b c d e bs h e0 n p =
+    sym (fed-byte r b (c ∷ d ∷ e ∷ bs)
+    ∙ ap₂ bitXor (fed-byte (r / 256) c (d ∷ e ∷ bs)
+    ∙ ap₂ bitXor (fed-byte (r / 256 / 256) d (e ∷ bs)
+    ∙ ap₂ bitXor (fed-byte (r / 256 / 256 / 256) e bs
+    ∙ ap₂ bitXor (ap (λ (m : ℕ). fed m bs) (empty r h) ∙ fed-zero entry 16 rule bs (omega arith) (p .1 .1 .1 .1))
+    (term 12 (suc (length bs)) (bitXor (r / 256 / 256 / 256) e) (x / 16777216) (omega arith) (omega arith) (sym (ap (λ (m : ℕ). m / 16777216 % 256) e0 ∙ fourth-byte r b c d e (p .0) (p .1 .0) (p .1 .1 .0)))))
+    (term 13 (suc (suc (length bs))) (bitXor (r / 256 / 256) d) (x / 65536) (omega arith) (omega arith) (sym (ap (λ (m : ℕ). m / 65536 % 256) e0 ∙ third-byte r b c d e (p .0) (p .1 .0) (p .1 .1 .0)))))
+    (term 14 (suc (suc (suc (length bs)))) (bitXor (r / 256) c) (x / 256) (omega arith) (omega arith) (sym (ap (λ (m : ℕ). m / 256 % 256) e0 ∙ second-byte r b c d e (p .0) (p .1 .0)))))
+    (term 15 (suc (suc (suc (suc (length bs))))) (bitXor r b) x (omega arith) (omega arith) (sym (ap (λ (m : ℕ). m % 256) e0 ∙ first-byte r b c d e (p .0)))))
+  where
+    empty : (r : ℕ) → r < 2 ^ 31 → r / 256 / 256 / 256 / 256 ≡ 0
+    empty r h = omega arith
+
+    low : (n : ℕ) → n % 256 < 256
+    low n = omega arith
+
+    term : (k count m y : ℕ) → k < 16 → count ≡ suc k → m % 256 ≡ y % 256 → times count (m % 256) ≡ entry k (y % 256)
+    term k count m y h f q = ap₂ times f q ∙ sym (rule k (y % 256) h (low y))
