@@ -19,6 +19,7 @@ use Rattle.linecode.proofs.Line.{length-places}
 use Rattle.linecode.proofs.Promises.{promises}
 use Rattle.rectangle.specs.Store.{readUnder, bytesAt, placesAt, aloneAt}
 use Rattle.rectangle.specs.Refusals.{acceptedAt}
+use Rattle.rectangle.proofs.Spare.{places-lineOf}
 
 -- a line that lies inside the buffer has 70 bytes
 pub seventy : (buffer : List ℕ) (n : ℕ) → suc n * 70 ≤ length buffer → length (bytesAt buffer n) ≡ 70
@@ -42,6 +43,9 @@ module _ (buffer : List ℕ) (n : ℕ) (r : Reading) (e : r ≡ reading (bytesAt
   pub line-alone : r .line ≡ lineOf (aloneAt buffer n .line)
   unfolding reading aloneAt placesAt readUnder
   line-alone = ap (λ (x : Reading). x .line) e
+
+  pub places-alone : suc n * 70 ≤ length buffer → places (r .line) ≡ aloneAt buffer n .line
+  places-alone inside = ap places line-alone ∙ places-lineOf (aloneAt buffer n .line) (length-alone buffer n inside)
 
   mark-alone : aloneAt buffer n .mark ≡ r .mark
   unfolding reading aloneAt placesAt readUnder

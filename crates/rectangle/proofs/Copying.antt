@@ -1,14 +1,13 @@
--- Copying a line out of a buffer and into it.
-use mathlib.Core.Path.{_≡_, refl, sym, ap, ap₂, _∙_}
-use mathlib.Core.List.{List, [], _∷_, _++_}
+-- Copying a line out of a buffer and into it, and one buffer into another.
+use mathlib.Core.Path.{_≡_, sym, ap, ap₂, _∙_}
+use mathlib.Core.List.{List, _++_, append-nil}
 use Prim.Native.Nat.{ℕ, suc, _+_, _-_, _*_, _≤_, _<_}
-use native.Mathlib.Nat.{suc-mul}
+use native.Mathlib.Nat.{suc-mul, zero-add}
 use native.Mathlib.Numerals.{add-one}
 use native.Mathlib.Omega.{arith}
-use lib.ListN.{length, take, drop, getD, set, replicate, length-drop}
+use lib.ListN.{length, take, drop, getD, set, replicate, length-drop, drop-of-length-le}
 use lib.Seq.{paste, paste-zero, paste-suc, length-paste, take-append-le, take-all}
 use Rattle.linecode.specs.Places.{lineBytes, loaded}
-use Rattle.linecode.proofs.Line.{bytes-is}
 use Rattle.rectangle.specs.Store.{bytesAt, putBytes}
 
 -- what is loaded from the part of a buffer that starts at line n
@@ -20,39 +19,56 @@ loaded-line buffer n h =
     (take-all (length buffer - n * 70) (drop (n * 70) buffer) (omega (arith, length-drop (n * 70) buffer)))
     ∙ take-append-le 70 (drop (n * 70) buffer) (replicate 70 0) (omega (arith, length-drop (n * 70) buffer, suc-mul n 70))
 
--- the loop that writes a line: i bytes of it stand in the buffer
-pub record Pasting (old line : List ℕ) (at : ℕ) (buffer : List ℕ) (i : ℕ) : Type 0 where
-  pub few : i ≤ 70
-  pub whole : length line ≡ 70
-  pub room : at + 70 ≤ length old
-  pub pasted : buffer ≡ paste old at line i
+-- the loop that writes so many bytes: i of them stand in the buffer
+pub record Pasting (old bytes : List ℕ) (at size : ℕ) (buffer : List ℕ) (i : ℕ) : Type 0 where
+  pub few : i ≤ size
+  pub whole : size ≤ length bytes
+  pub room : at + size ≤ length old
+  pub pasted : buffer ≡ paste old at bytes i
 
-pub pasting-start : (old line : List ℕ) (n : ℕ) → length line ≡ 70 → suc n * 70 ≤ length old → Pasting old line (n * 70) old 0
-pasting-start old line n e h =
-    record { few = omega arith; whole = e; room = omega (arith, suc-mul n 70); pasted = paste-zero old (n * 70) line }
+pub pasting-start : (old bytes : List ℕ) (at size : ℕ) → size ≤ length bytes → at + size ≤ length old
+    → Pasting old bytes at size old 0
+pasting-start old bytes at size e h =
+    record { few = omega arith; whole = e; room = h; pasted = paste-zero old at bytes }
 
-module _ (old line : List ℕ) (at : ℕ) (buffer : List ℕ) (i : ℕ) (p : Pasting old line at buffer i) where
+module _ (old bytes : List ℕ) (at size : ℕ) (buffer : List ℕ) (i : ℕ) (p : Pasting old bytes at size buffer i) where
   pub pasting-length : length buffer ≡ length old
   pasting-length =
       ap length (p .pasted)
-      ∙ length-paste old at line i (omega (arith, p .few, p .room)) (omega (arith, p .few, p .whole))
+      ∙ length-paste old at bytes i (omega (arith, p .few, p .room)) (omega (arith, p .few, p .whole))
 
-  pub pasting-next : i < 70 → Pasting old line at (set buffer (at + i) (getD line i 0)) (i + 1)
+  pub pasting-next : i < size → Pasting old bytes at size (set buffer (at + i) (getD bytes i 0)) (i + 1)
   pasting-next h =
       record {
         few = omega arith;
         whole = p .whole;
         room = p .room;
         pasted =
-            ap (λ (b : List ℕ). set b (at + i) (getD line i 0)) (p .pasted)
-            ∙ paste-suc old at line i 0 (omega (arith, p .room)) (omega (arith, p .whole))
-            ∙ ap (paste old at line) (sym (add-one i));
+            ap (λ (b : List ℕ). set b (at + i) (getD bytes i 0)) (p .pasted)
+            ∙ paste-suc old at bytes i 0 (omega (arith, p .room)) (omega (arith, p .whole))
+            ∙ ap (paste old at bytes) (sym (add-one i));
       }
 
-pub pasting-end : (old line buffer : List ℕ) (n i : ℕ) → 70 ≤ i → Pasting old line (n * 70) buffer i → buffer ≡ putBytes old n line
+  pasting-all : size ≤ i → buffer ≡ paste old at bytes size
+  pasting-all h = let e : i ≡ size = omega (arith, p .few) in p .pasted ∙ ap (paste old at bytes) e
+
+-- a line
+pub pasting-end : (old line buffer : List ℕ) (n i : ℕ) → length line ≡ 70 → 70 ≤ i → Pasting old line (n * 70) 70 buffer i
+    → buffer ≡ putBytes old n line
 unfolding putBytes lineBytes
-pasting-end old line buffer n i h p =
-    let e : i ≡ 70 = omega (arith, p .few) in
+pasting-end old line buffer n i whole h p =
     let next : n * 70 + 70 ≡ suc n * 70 = omega (arith, suc-mul n 70) in
-    p .pasted ∙ ap (paste old (n * 70) line) e
-    ∙ ap₂ (λ (l : List ℕ) (k : ℕ). take (n * 70) old ++ l ++ drop k old) (take-all 70 line (omega (arith, p .whole))) next
+    pasting-all old line (n * 70) 70 buffer i p h
+    ∙ ap₂ (λ (l : List ℕ) (k : ℕ). take (n * 70) old ++ l ++ drop k old) (take-all 70 line (omega (arith, whole))) next
+
+-- a whole buffer, from its first byte on
+pub copied-next : (old bytes : List ℕ) (size : ℕ) (buffer : List ℕ) (i : ℕ) → Pasting old bytes 0 size buffer i → i < size
+    → Pasting old bytes 0 size (set buffer i (getD bytes i 0)) (i + 1)
+copied-next old bytes size buffer i p h = rw zero-add at (pasting-next old bytes 0 size buffer i p h)
+
+pub copied-end : (old bytes buffer : List ℕ) (i : ℕ) → length old ≤ i → Pasting old bytes 0 (length old) buffer i
+    → buffer ≡ take (length old) bytes
+copied-end old bytes buffer i h p =
+    pasting-all old bytes 0 (length old) buffer i p h
+    ∙ ap (λ (l : List ℕ). take (length old) bytes ++ l) (drop-of-length-le old {i = 0 + length old} (omega arith))
+    ∙ append-nil (take (length old) bytes)

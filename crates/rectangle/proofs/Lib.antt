@@ -14,7 +14,8 @@ pub mod Runs
 pub mod Refused
 pub mod Refusing
 pub mod Summing
-pub mod Filling
+pub mod SweepingRow
+pub mod Sweeping
 pub mod Changing
 -- The demands: read Kept last.
 pub mod Writing

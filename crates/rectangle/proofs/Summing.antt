@@ -29,15 +29,15 @@ unfolding places lineOf lineBytes protectedPlaces hammingPlaces linePlaces
 none-places = refl
 
 -- one line more, in bytes
-one-more : (w v : Word) → Whole w → length v ≡ linePlaces → lineOf (places (lineOf w) ⊕ places (lineOf v)) ≡ lineOf (w ⊕ v)
+one-more : (w v : Word) → Whole w → length v ≡ linePlaces → lineOf (places (lineOf w) ⊕ v) ≡ lineOf (w ⊕ v)
 unfolding Whole
 one-more w v (inl e) f =
     ap lineOf
-    (ap₂ _⊕_ (ap (λ (x : Word). places (lineOf x)) e ∙ none-places) (places-lineOf v f)
+    (ap (λ (x : Word). x ⊕ v) (ap (λ (x : Word). places (lineOf x)) e ∙ none-places)
     ∙ xor-comm (zeros linePlaces) v
     ∙ xor-zeros linePlaces v (omega (arith, f))
     ∙ ap (λ (x : Word). x ⊕ v) (sym e))
-one-more w v (inr e) f = ap lineOf (ap₂ _⊕_ (places-lineOf w e) (places-lineOf v f))
+one-more w v (inr e) f = ap (λ (x : Word). lineOf (x ⊕ v)) (places-lineOf w e)
 
 whole-more : (w v : Word) → Whole w → length v ≡ linePlaces → Whole (w ⊕ v)
 unfolding Whole
@@ -58,13 +58,13 @@ module _ (buffer : List ℕ) (first step : ℕ) where
       (whole-more (summed k) (aloneAt buffer (first + k * step) .line) (whole-summed k (λ j h. inside j (omega arith)))
       (length-alone buffer (first + k * step) (inside k (omega arith))))
 
-  -- a turn of the loop
-  pub sum-turn : (k : ℕ) (old line new : List ℕ) → ((j : ℕ) → j < suc k → suc (first + j * step) * 70 ≤ length buffer)
-      → old ≡ lineOf (summed k) → line ≡ lineOf (aloneAt buffer (first + k * step) .line) → new ≡ lineOf (places old ⊕ places line)
-      → new ≡ lineOf (summed (k + 1))
-  sum-turn k old line new inside e f g =
-      g
-      ∙ ap₂ (λ (a b : List ℕ). lineOf (places a ⊕ places b)) e f
+  -- line n is the next of them
+  pub sum-turn : (k n : ℕ) (old new : List ℕ) → n ≡ first + k * step
+      → ((j : ℕ) → j < suc k → suc (first + j * step) * 70 ≤ length buffer)
+      → old ≡ lineOf (summed k) → new ≡ lineOf (places old ⊕ aloneAt buffer n .line) → new ≡ lineOf (summed (k + 1))
+  sum-turn k n old new at inside e f =
+      f
+      ∙ ap₂ (λ (l : List ℕ) (m : ℕ). lineOf (places l ⊕ aloneAt buffer m .line)) e at
       ∙ one-more (summed k) (aloneAt buffer (first + k * step) .line) (whole-summed k (λ j h. inside j (omega arith)))
       (length-alone buffer (first + k * step) (inside k (omega arith)))
       ∙ ap lineOf (sym (sum-snoc (λ n. aloneAt buffer n .line) first step k))

@@ -3,7 +3,7 @@ use mathlib.Core.Path.{_≡_, sym, refl, ap, _∙_}
 use mathlib.Core.Logic.{inl, inr}
 use mathlib.Core.Bool.{Bool, true, false, not, _&&_, true≢false, and-eq-true-iff}
 use mathlib.Core.List.{List, [], _∷_}
-use Prim.Native.Nat.{ℕ, _*_, _<_}
+use Prim.Native.Nat.{ℕ, _+_, _-_, _*_, _<_}
 use native.Mathlib.Nat.{zero-add}
 use native.Mathlib.Omega.{arith}
 use Rattle.linecode.specs.Places.{lineBytes}
@@ -34,23 +34,39 @@ some-fails test (a ∷ l) e = go (test a) refl e (some-fails test l)
     go false p q later = (a, inl refl, p)
     go true p q later = let f = later q in (f .0, inr (f .1), f .2)
 
--- the same for numbers from 0 upward
+-- the same for k numbers upward
+module _ (test : ℕ → Bool) (first k : ℕ) where
+  pub every-from : ((i : ℕ) → i < k → test (first + i) ≡ true) → every test (upFrom first k) ≡ true
+  every-from h =
+      every-true test (upFrom first k)
+      (λ n i.
+      let b = upFrom-bounds first k n i in
+      let e : n ≡ first + (n - first) = omega (arith, b .0) in
+      ap test e ∙ h (n - first) (omega (arith, b .0, b .1)))
+
+  pub from-every : every test (upFrom first k) ≡ true → (i : ℕ) → i < k → test (first + i) ≡ true
+  from-every e i h = every-at test (upFrom first k) e (first + i) (in-upFrom first k i h)
+
+  pub fails-from : (i : ℕ) → i < k → test (first + i) ≡ false → every test (upFrom first k) ≡ false
+  fails-from i h e = go (every test (upFrom first k)) refl
+    where
+      go : (b : Bool) → every test (upFrom first k) ≡ b → b ≡ false
+      go true p = sym (from-every p i h) ∙ e
+      go false p = refl
+
+-- and from 0
 pub every-below : (test : ℕ → Bool) (k : ℕ) → ((n : ℕ) → n < k → test n ≡ true) → every test (upFrom 0 k) ≡ true
-every-below test k h = every-true test (upFrom 0 k) (λ n i. h n (omega (arith, upFrom-bounds 0 k n i .1)))
+every-below test k h = every-from test 0 k (λ i j. ap test (zero-add i) ∙ h i j)
 
 pub below-every : (test : ℕ → Bool) (k : ℕ) → every test (upFrom 0 k) ≡ true → (n : ℕ) → n < k → test n ≡ true
-below-every test k e n h = every-at test (upFrom 0 k) e n (rw zero-add at (in-upFrom 0 k n h))
+below-every test k e n h = ap test (sym (zero-add n)) ∙ from-every test 0 k e n h
 
 pub fails-below : (test : ℕ → Bool) (k n : ℕ) → n < k → test n ≡ false → every test (upFrom 0 k) ≡ false
-fails-below test k n h e = go (every test (upFrom 0 k)) refl
-  where
-    go : (b : Bool) → every test (upFrom 0 k) ≡ b → b ≡ false
-    go true p = sym (below-every test k p n h) ∙ e
-    go false p = refl
+fails-below test k n h e = fails-from test 0 k n h (ap test (zero-add n) ∙ e)
 
 -- ---- a refusal
--- an answer 0 passed the test
-pub passed : (b : Bool) (refusal next : ℕ) → (refusal ≡ 0 → ⊥) → unless b refusal next ≡ 0 → (b ≡ true) × (next ≡ 0)
+-- an answer other than a test's refusal passed the test
+pub passed : {n : ℕ} (b : Bool) (refusal next : ℕ) → (refusal ≡ n → ⊥) → unless b refusal next ≡ n → (b ≡ true) × (next ≡ n)
 passed true refusal next d e = (refl, e)
 passed false refusal next d e = absurd (d e)
 

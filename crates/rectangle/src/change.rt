@@ -1,11 +1,11 @@
 // Changing one line together with its two parity lines. Document 01, "The rectangle".
 use crate::lines::ColumnIndex;
 use crate::lines::RowIndex;
+use crate::lines::add_to_column;
+use crate::lines::add_to_row;
 use crate::lines::alone_at;
 use crate::lines::column_parity;
-use crate::lines::put_column_parity;
 use crate::lines::put_line;
-use crate::lines::put_row_parity;
 use crate::lines::row_parity;
 use crate::sizes;
 use linecode::alone;
@@ -14,11 +14,10 @@ ghost use mathlib.Core.Path.{_≡_};
 ghost use mathlib.Core.Bool.{_&&_};
 ghost use Prim.Native.Nat.{suc, _*_, _≤_};
 ghost use lib.ListN.{length};
-ghost use Rattle.linecode.specs.Places.{places};
 ghost use Rattle.linecode.specs.Code.{isCorrect};
 ghost use Rattle.rectangle.specs.Store.{placesAt};
 ghost use Rattle.rectangle.specs.Refusals.{changeRefusal};
-ghost use Rattle.rectangle.specs.Change.{addTo, LineChanged, changeLine};
+ghost use Rattle.rectangle.specs.Change.{LineChanged, changeLine};
 
 // Whether the parity lines of a row and of a column are correct lines, spare bits apart.
 fn parities_correct(
@@ -80,28 +79,6 @@ fn refusal(
         return 10;
     }
     0
-}
-
-// A line put into the parity line of a row by exclusive or.
-fn add_to_row(row_table: &mut [u8], row: RowIndex, line: [u8; 70])
-    requires { ⌜ suc (row .0) * 70 ≤ length (now «row_table») ⌝ }
-    ensures { λ _. ⌜ now («row_table» .exit) ≡ addTo (now («row_table» .entry)) (row .0) (places line) ⌝ }
-{
-    let r = row.0;
-    let parity = row_parity(row_table, RowIndex(r));
-    let sum = place::xor_lines(parity, line);
-    put_row_parity(row_table, RowIndex(r), sum);
-}
-
-// A line put into the parity line of a column by exclusive or.
-fn add_to_column(column_table: &mut [u8], column: ColumnIndex, line: [u8; 70])
-    requires { ⌜ suc (column .0) * 70 ≤ length (now «column_table») ⌝ }
-    ensures { λ _. ⌜ now («column_table» .exit) ≡ addTo (now («column_table» .entry)) (column .0) (places line) ⌝ }
-{
-    let c = column.0;
-    let parity = column_parity(column_table, ColumnIndex(c));
-    let sum = place::xor_lines(parity, line);
-    put_column_parity(column_table, ColumnIndex(c), sum);
 }
 
 // Line n written anew from 64 data bytes: 0, or the first refusal that fits, which writes nothing.

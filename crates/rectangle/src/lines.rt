@@ -2,11 +2,15 @@
 // the line lies inside the buffer, which the entry points have tested.
 use linecode::alone;
 use linecode::alone::Reading;
+use linecode::place;
 ghost use mathlib.Core.Path.{_≡_};
 ghost use Prim.Native.Nat.{suc, _*_, _≤_};
 ghost use lib.ListN.{length};
+ghost use Rattle.linecode.specs.Places.{places};
 ghost use Rattle.linecode.specs.Entry.{reading};
+ghost use Rattle.linecode.specs.Slices.{sliceTable};
 ghost use Rattle.rectangle.specs.Store.{bytesAt, putBytes};
+ghost use Rattle.rectangle.specs.Change.{addTo};
 
 // The number of a row, and of a column: they are counted apart, so that neither table is reached with the other's number.
 pub struct RowIndex(pub usize);
@@ -19,7 +23,7 @@ pub fn line_at(buffer: &[u8], n: usize) -> [u8; 70]
     ensures { λ r. ⌜ r ≡ bytesAt (now (buffer .entry)) n ⌝ }
 {
     let at = n * 70;
-    linecode::place::load(&buffer[at..])
+    place::load(&buffer[at..])
 }
 
 // Line n of a buffer, written.
@@ -61,6 +65,14 @@ pub fn alone_at(buffer: &[u8], n: usize) -> Reading
     alone::read_line(line_at(buffer, n))
 }
 
+// The same with the CRC's table lent, for many lines.
+pub fn alone_by(slices: &[u32; 4096], buffer: &[u8], n: usize) -> Reading
+    requires { ⌜ (now slices ≡ sliceTable) × (suc n * 70 ≤ length (now buffer)) ⌝ }
+    ensures { λ r. ⌜ r ≡ reading (bytesAt (now (buffer .entry)) n) ⌝ }
+{
+    alone::read_by(slices, line_at(buffer, n))
+}
+
 // The parity line of a row, written.
 pub fn put_row_parity(row_table: &mut [u8], row: RowIndex, line: [u8; 70])
     requires { ⌜ suc (row .0) * 70 ≤ length (now «row_table») ⌝ }
@@ -71,10 +83,32 @@ pub fn put_row_parity(row_table: &mut [u8], row: RowIndex, line: [u8; 70])
 }
 
 // The parity line of a column, written.
-pub fn put_column_parity(column_table: &mut [u8], column: ColumnIndex, line: [u8; 70])
+fn put_column_parity(column_table: &mut [u8], column: ColumnIndex, line: [u8; 70])
     requires { ⌜ suc (column .0) * 70 ≤ length (now «column_table») ⌝ }
     ensures { λ _. ⌜ now («column_table» .exit) ≡ putBytes (now («column_table» .entry)) (column .0) line ⌝ }
 {
     let c = column.0;
     put_line(column_table, c, line);
+}
+
+// A line put into the parity line of a row by exclusive or.
+pub fn add_to_row(row_table: &mut [u8], row: RowIndex, line: [u8; 70])
+    requires { ⌜ suc (row .0) * 70 ≤ length (now «row_table») ⌝ }
+    ensures { λ _. ⌜ now («row_table» .exit) ≡ addTo (now («row_table» .entry)) (row .0) (places line) ⌝ }
+{
+    let r = row.0;
+    let parity = row_parity(row_table, RowIndex(r));
+    let sum = place::xor_lines(parity, line);
+    put_row_parity(row_table, RowIndex(r), sum);
+}
+
+// A line put into the parity line of a column by exclusive or.
+pub fn add_to_column(column_table: &mut [u8], column: ColumnIndex, line: [u8; 70])
+    requires { ⌜ suc (column .0) * 70 ≤ length (now «column_table») ⌝ }
+    ensures { λ _. ⌜ now («column_table» .exit) ≡ addTo (now («column_table» .entry)) (column .0) (places line) ⌝ }
+{
+    let c = column.0;
+    let parity = column_parity(column_table, ColumnIndex(c));
+    let sum = place::xor_lines(parity, line);
+    put_column_parity(column_table, ColumnIndex(c), sum);
 }

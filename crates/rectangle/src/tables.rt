@@ -1,77 +1,96 @@
 // Making both parity tables from lines, each used as it reads alone. Document 01, "The rectangle".
 use crate::lines::ColumnIndex;
 use crate::lines::RowIndex;
-use crate::lines::alone_at;
-use crate::lines::put_column_parity;
+use crate::lines::add_to_column;
+use crate::lines::alone_by;
 use crate::lines::put_row_parity;
 use crate::sizes;
 use linecode::place;
 ghost use mathlib.Core.Path.{_≡_};
-ghost use Prim.Native.Nat.{ℕ, suc, _+_, _*_, _≤_, _<_};
-ghost use lib.ListN.{length};
-ghost use Rattle.linecode.specs.Places.{lineOf};
-ghost use Rattle.linecode.specs.Code.{upFrom};
-ghost use Rattle.scheme.specs.Visit.{sum as sumOf};
-ghost use Rattle.rectangle.specs.Store.{aloneAt, stride};
-ghost use Rattle.rectangle.specs.Refusals.{every, acceptedAt};
-ghost use Rattle.rectangle.specs.Tables.{rowTableOf, columnTableOf, TablesMade, makeTables};
+ghost use Prim.Native.Nat.{_+_, _*_, _≤_};
+ghost use lib.ListN.{length, take};
+ghost use Rattle.linecode.specs.Slices.{sliceTable};
+ghost use Rattle.rectangle.specs.Sweep.{RowSwept, Unswept, Swept};
+ghost use Rattle.rectangle.specs.Tables.{TablesMade, makeTables};
 
-// Whether each of the first count lines reads alone as accepted.
-fn all_accepted(lines: &[u8], count: usize) -> bool
-    requires { ⌜ count * 70 ≤ length (now lines) ⌝ }
-    ensures { λ r. ⌜ r ≡ every (acceptedAt (now (lines .entry))) (upFrom 0 count) ⌝ }
+// The exclusive or of a row's lines, and whether all of them are accepted; where one is faulty, of the lines before it.
+struct RowSum {
+    line: [u8; 70],
+    accepted: bool,
+}
+
+// Each line of a row read alone, once, and added to the row's sum and to its column's. A faulty line ends it.
+fn sum_row(
+    slices: &[u32; 4096],
+    lines: &[u8],
+    first: usize,
+    columns: usize,
+    column_sums: &mut [u8],
+) -> RowSum
+    requires { ⌜ (now slices ≡ sliceTable) × ((first + columns) * 70 ≤ length (now lines)) × (columns ≤ 512) × (length (now «column_sums») ≡ 512 * 70) ⌝ }
+    ensures { λ r. ⌜ RowSwept (now (lines .entry)) first columns (now («column_sums» .entry)) (now («column_sums» .exit))
+        (r .line) (r .accepted) ⌝ }
 {
-    let mut n = 0;
-    while n < count {
-        let read = alone_at(lines, n);
+    let mut sum = [0u8; 70];
+    let mut c = 0;
+    while c < columns {
+        let read = alone_by(slices, lines, first + c);
         if read.mark == 4 {
+            return RowSum {
+                line: sum,
+                accepted: false,
+            };
+        }
+        let line = read.line;
+        let next = place::xor_lines(sum, line);
+        sum = next;
+        add_to_column(column_sums, ColumnIndex(c), line);
+        c += 1;
+    }
+    RowSum {
+        line: sum,
+        accepted: true,
+    }
+}
+
+// Rows and columns summed in one sweep over the lines, in the order in which they lie: whether every line is accepted. A faulty
+// line ends it.
+fn sweep(
+    slices: &[u32; 4096],
+    rows: usize,
+    columns: usize,
+    lines: &[u8],
+    row_sums: &mut [u8],
+    column_sums: &mut [u8],
+) -> bool
+    requires table { ⌜ now slices ≡ sliceTable ⌝ }
+    requires unswept { ⌜ Unswept rows columns (now lines) (now «row_sums») (now «column_sums») ⌝ }
+    ensures { λ r. ⌜ Swept rows columns (now (lines .entry)) (now («row_sums» .exit)) (now («column_sums» .exit)) r ⌝ }
+{
+    let mut first = 0;
+    let mut r = 0;
+    while r < rows {
+        let row = sum_row(slices, lines, first, columns, column_sums);
+        if !row.accepted {
             return false;
         }
-        n += 1;
+        let line = row.line;
+        put_row_parity(row_sums, RowIndex(r), line);
+        first += columns;
+        r += 1;
     }
     true
 }
 
-// The exclusive or of so many lines, from the first on at equal steps, each as it reads alone: rows and columns alike.
-fn group_parity(lines: &[u8], first: usize, step: usize, count: usize) -> [u8; 70]
-    requires { ⌜ ((k : ℕ) → k < count → suc (first + k * step) * 70 ≤ length (now lines)) ⌝ }
-    ensures { λ r. ⌜ r ≡ lineOf (sumOf (λ n. aloneAt (now (lines .entry)) n .line) (stride first step count)) ⌝ }
+// As many bytes of the sums as the table has, copied into it.
+fn copy_sums(sums: &[u8], table: &mut [u8])
+    requires { ⌜ length (now table) ≤ length (now sums) ⌝ }
+    ensures { λ _. ⌜ now (table .exit) ≡ take (length (now (table .entry))) (now (sums .entry)) ⌝ }
 {
-    let mut sum = [0u8; 70];
-    let mut k = 0;
-    while k < count {
-        let read = alone_at(lines, first + k * step);
-        let line = read.line;
-        let next = place::xor_lines(sum, line);
-        sum = next;
-        k += 1;
-    }
-    sum
-}
-
-// The row table: for each row the exclusive or of its lines.
-fn fill_rows(rows: usize, columns: usize, lines: &[u8], row_table: &mut [u8])
-    requires { ⌜ (rows * columns * 70 ≤ length (now lines)) × (length (now «row_table») ≡ rows * 70) ⌝ }
-    ensures { λ _. ⌜ now («row_table» .exit) ≡ rowTableOf rows columns (now (lines .entry)) ⌝ }
-{
-    let mut r = 0;
-    while r < rows {
-        let parity = group_parity(lines, r * columns, 1, columns);
-        put_row_parity(row_table, RowIndex(r), parity);
-        r += 1;
-    }
-}
-
-// The column table: for each column the exclusive or of its lines.
-fn fill_columns(rows: usize, columns: usize, lines: &[u8], column_table: &mut [u8])
-    requires { ⌜ (rows * columns * 70 ≤ length (now lines)) × (length (now «column_table») ≡ columns * 70) ⌝ }
-    ensures { λ _. ⌜ now («column_table» .exit) ≡ columnTableOf rows columns (now (lines .entry)) ⌝ }
-{
-    let mut c = 0;
-    while c < columns {
-        let parity = group_parity(lines, c, columns, rows);
-        put_column_parity(column_table, ColumnIndex(c), parity);
-        c += 1;
+    let mut i = 0;
+    while i < table.len() {
+        table[i] = sums[i];
+        i += 1;
     }
 }
 
@@ -97,10 +116,21 @@ pub fn make_tables(
     if refused != 0 {
         return refused;
     }
-    if !all_accepted(lines, rows * columns) {
+    // Refusal 10 writes nothing and is known after the last line only, so the sums are made apart: 512 lines of 70 bytes each.
+    let mut row_sums = [0u8; 35840];
+    let mut column_sums = [0u8; 35840];
+    let slices = linecode::slices::slices();
+    if !sweep(
+        &slices,
+        rows,
+        columns,
+        lines,
+        &mut row_sums,
+        &mut column_sums,
+    ) {
         return 10;
     }
-    fill_rows(rows, columns, lines, row_table);
-    fill_columns(rows, columns, lines, column_table);
+    copy_sums(&row_sums, row_table);
+    copy_sums(&column_sums, column_table);
     0
 }

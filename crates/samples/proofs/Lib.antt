@@ -1,2 +1,3 @@
--- Every starred sample follows from the rules.
+-- Every starred sample follows from the rules, and so does the report.
 pub mod Samples
+pub mod Report

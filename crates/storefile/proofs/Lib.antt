@@ -16,4 +16,3 @@ pub mod Needed
 pub mod Printing
 pub mod Covering
 pub mod TurnedBack
-pub mod Sample

@@ -12,9 +12,10 @@ use lib.Dec.{eqb, leb}
 use lib.ListN.{length, take, drop, take-append-drop}
 use lib.Seq.{take-all, take-take, length-take-le}
 use Rattle.linecode.specs.Places.{lineBytes}
-use Rattle.rectangle.specs.Refusals.{unless, sidesFit}
+use Rattle.rectangle.specs.Refusals.{sidesFit}
 use Rattle.rectangle.proofs.Groups.{sides}
 use Rattle.rectangle.proofs.Runs.{zero-or-not}
+use Rattle.rectangle.proofs.Tests.{passed}
 use Rattle.storefile.specs.Bytes.{numberOf, numberAt}
 use Rattle.storefile.specs.Header.{headerBytes, linesPart, rowTablePart, columnTablePart, fileLength}
 use Rattle.storefile.specs.Opening.{rowsIn, columnsIn, sidesWithin, entryIs, entriesFit, contentsFit, openRefusal, opened, bytesNeeded}
@@ -27,11 +28,6 @@ use Rattle.storefile.proofs.Checking.{check-refused}
 use Rattle.storefile.proofs.MadeFile.{number-in-front}
 
 -- ---- the function, case by case
--- an answer other than a test's refusal passed the test
-past : (b : Bool) (refusal next n : ℕ) → (refusal ≡ n → ⊥) → unless b refusal next ≡ n → (b ≡ true) × (next ≡ n)
-past true refusal next n d e = (refl, e)
-past false refusal next n d e = absurd (d e)
-
 module _ (limit : ℕ) (start : List ℕ) (o : Opened) (is : o ≡ opened limit start) where
   answer-is : o .answer ≡ openRefusal limit start
   answer-is = ap (λ (x : Opened). x .answer) is ∙ go (zero-or-not (openRefusal limit start))
@@ -49,8 +45,8 @@ module _ (limit : ℕ) (start : List ℕ) (o : Opened) (is : o ≡ opened limit 
     pub start-fits : (28 ≤ length start) × (sidesFit (rowsIn start) (columnsIn start) ≡ true)
     unfolding openRefusal headerBytes
     start-fits =
-        let one = past (leb 28 (length start)) 1 _ 4 (λ z. omega arith) (sym answer-is ∙ four) in
-        let two = past (sidesFit (rowsIn start) (columnsIn start)) 2 _ 4 (λ z. omega arith) (one .1) in
+        let one = passed (leb 28 (length start)) 1 _ (λ z. omega arith) (sym answer-is ∙ four) in
+        let two = passed (sidesFit (rowsIn start) (columnsIn start)) 2 _ (λ z. omega arith) (one .1) in
         (leb-true 28 (length start) (one .0), two .0)
 
     module _ (rows columns : ℕ) (er : rows ≡ numberAt start 0 2) (ec : columns ≡ numberAt start 2 2) where
@@ -130,9 +126,9 @@ module _ (limit : ℕ) (start l : List ℕ) (long : 28 ≤ length l) (same : tak
 start-within : (limit : ℕ) (start : List ℕ) → openRefusal limit start ≡ 4 → sidesWithin limit (rowsIn start) (columnsIn start) ≡ true
 unfolding openRefusal headerBytes
 start-within limit start e =
-    let one = past (leb 28 (length start)) 1 _ 4 (λ z. omega arith) e in
-    let two = past (sidesFit (rowsIn start) (columnsIn start)) 2 _ 4 (λ z. omega arith) (one .1) in
-    past (sidesWithin limit (rowsIn start) (columnsIn start)) 3 _ 4 (λ z. omega arith) (two .1) .0
+    let one = passed (leb 28 (length start)) 1 _ (λ z. omega arith) e in
+    let two = passed (sidesFit (rowsIn start) (columnsIn start)) 2 _ (λ z. omega arith) (one .1) in
+    passed (sidesWithin limit (rowsIn start) (columnsIn start)) 3 _ (λ z. omega arith) (two .1) .0
 
 end-within : (rows columns : ℕ) → sidesWithin 16 rows columns ≡ true → suc (fileLength rows columns) ≤ 20189
 unfolding fileLength columnTablePart rowTablePart linesPart headerBytes lineBytes

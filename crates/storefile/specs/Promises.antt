@@ -3,12 +3,12 @@ use mathlib.Core.Path.{_≡_}
 use mathlib.Core.Bool.{true, false}
 use mathlib.Core.List.{List, [], _∷_, _++_}
 use Prim.Native.Nat.{ℕ, _+_, _-_, _*_, _≤_, _<_}
-use lib.ListN.{length, take, getD, replicate}
+use lib.ListN.{length, take, getD}
 use Rattle.linecode.specs.Places.{lineBytes}
-use Rattle.storefile.specs.Header.{headerBytes, linesPart, rowTablePart, columnTablePart, header, writeHeader}
+use Rattle.storefile.specs.Header.{headerBytes, linesPart, rowTablePart, columnTablePart, writeHeader}
 use Rattle.storefile.specs.Opening.{rowsIn, columnsIn, opened, body, bytesNeeded}
 use Rattle.storefile.specs.Marks.{countsOf}
-use Rattle.storefile.specs.Report.{ascii, decimal, handsOver, reportText}
+use Rattle.storefile.specs.Report.{decimal, handsOver}
 use Rattle.storefile.specs.Check.{refusedWith, checkStore}
 use Rattle.storefile.specs.declared.marks.Counts.{Counts}
 
@@ -95,21 +95,3 @@ pub record Decimal (n : ℕ) : Type 0 where
 
 abbrev pub DecimalWithoutZeros : Type 0
 DecimalWithoutZeros = (n : ℕ) → Decimal n
-
--- ---- "For a 2 by 2 store of zero bytes after its header it prints exactly"
-abbrev pub zeroStore : List ℕ
-zeroStore = header 2 2 ++ replicate 560 0
-
-abbrev pub sampleReport : List ℕ
-sampleReport =
-    ascii "store 2 2\n"
-    ++ ascii "clean 4\n"
-    ++ ascii "alone 0\n"
-    ++ ascii "trial 0\n"
-    ++ ascii "rebuilt 0\n"
-    ++ ascii "faulty 0\n"
-    ++ ascii "passes 0\n"
-    ++ ascii "answer 0\n"
-
-abbrev pub ZeroStoreReport : Type 0
-ZeroStoreReport = reportText (checkStore 16 zeroStore (replicate 280 0) (replicate 4 0) .checked) ≡ sampleReport

@@ -5,127 +5,146 @@
 //! cargo run --release -p bench
 //! ```
 //!
+//! Before anything is timed, library and peer are compared once on each store.
 //! Each figure is the median of several rounds; a round times the library, the
-//! peer and the copy one after another. Prints a table in Markdown.
+//! peer and the copy one after another. Prints a table in Markdown, with the
+//! bar of each row and whether it is met; a bar that isn't met is no failure.
 
+mod doers;
 mod stores;
+mod table;
 mod timing;
 
 use std::hint::black_box;
 
-use stores::{Buffers, LINE_BYTES, SIDE, Stores};
-use timing::{Figures, measure};
+use doers::{ALL, Doer, compare, compare_writing};
+use stores::{Buffers, DATA_BYTES, LINE_BYTES, Store};
+use table::{Bar, HEAD, Row, met};
+use timing::medians;
 
-/// Lines that are written or read in one round of the single-line figures:
-/// few enough to stay in the cache.
+/// The side of the large stores.
+const SIDE: usize = 512;
+
+/// The sides by which growth is measured.
+const SIDES: [usize; 3] = [32, 128, SIDE];
+
+/// The most that the time for a line may grow by.
+const GROWTH: f64 = 1.3;
+
+/// Lines that are written or read in one turn of the single-line figures: few
+/// enough to stay in the cache.
 const FEW: usize = 1000;
 
-/// Rounds of each figure; the median is taken.
-const ROUNDS: usize = 7;
+/// Turns in a round of these, since one takes microseconds.
+const TURNS: usize = 50;
 
-/// A function that reads or writes one line.
-type OnLine = fn(&[u8], &mut [u8]);
-
-/// One line at a time over a thousand lines, per line.
-fn single(name: &str, from: &[u8], width: usize, library: OnLine, peer: OnLine) -> Figures {
+/// One line at a time, from parts of `width` bytes.
+fn single(name: &str, from: &[u8], width: usize, work: impl Fn(Doer, &[u8], &mut [u8])) {
     let mut to = vec![0; FEW * LINE_BYTES];
-    let mut all = |work: OnLine| {
-        for (from, to) in from.chunks(width).zip(to.chunks_mut(LINE_BYTES)) {
-            work(black_box(from), to);
+    let times = medians(ALL, |doer| {
+        for _ in 0..TURNS {
+            for (from, to) in from.chunks(width).zip(to.chunks_mut(LINE_BYTES)) {
+                work(doer, black_box(from), to);
+            }
+            black_box(&to);
         }
-        black_box(&to);
+    });
+    let row = Row {
+        name,
+        times: times.map(|time| time / (TURNS * FEW) as f64),
+        unit: "ns",
+        bars: &[Bar::Peer(1.0)],
     };
-    let copy: OnLine = |from, to| to[..from.len()].copy_from_slice(from);
-    // Many turns in a round, since one takes microseconds.
-    let mut turns = |work: OnLine| (0..50).for_each(|_| all(work));
-    let figures = measure(ROUNDS, |which| match which {
-        timing::Which::Library => turns(library),
-        timing::Which::Peer => turns(peer),
-        timing::Which::Copy => turns(copy),
-    });
-    figures.named(name, 50 * FEW, "ns", 1.0)
+    println!("{row}");
 }
 
-/// Making both tables of a whole store.
-fn tables(stores: &Stores, buffers: &mut Buffers) -> Figures {
-    let figures = measure(ROUNDS, |which| {
-        let (rows, columns) = (&mut buffers.row_table, &mut buffers.column_table);
-        let answer = match which {
-            timing::Which::Library => {
-                sudoku::c::make_tables(SIDE, SIDE, &stores.clean, rows, columns)
-            }
-            timing::Which::Peer => peer::make_tables(SIDE, SIDE, &stores.clean, rows, columns),
-            timing::Which::Copy => copy(&stores.clean, &mut buffers.out),
+/// A whole store at once.
+fn whole(name: &str, bars: &[Bar], work: impl FnMut(Doer)) {
+    let row = Row {
+        name,
+        times: medians(ALL, work).map(|time| time / 1e6),
+        unit: "ms",
+        bars,
+    };
+    println!("{row}");
+}
+
+/// Repair of clean stores of several sides, for each line.
+fn growth(stores: &[Store; SIDES.len()]) {
+    let mut buffers = SIDES.map(Buffers::new);
+    // Every size in every round, and in each as many lines.
+    let things: [_; 3 * SIDES.len()] = std::array::from_fn(|i| (i / 3, ALL[i % 3]));
+    let times = medians(things, |(i, doer)| {
+        let turns = (SIDE / SIDES[i]).pow(2);
+        for _ in 0..turns {
+            black_box(doer.repair(black_box(&stores[i]), &mut buffers[i]));
+            black_box(&buffers[i]);
+        }
+    });
+    let times = times.map(|time| time / (SIDE * SIDE) as f64);
+    let (sizes, _) = times.as_chunks::<3>();
+    for (side, &times) in SIDES.iter().zip(sizes) {
+        let row = Row {
+            name: &format!("repair, clean, {side} by {side}, each line"),
+            times,
+            unit: "ns",
+            bars: &[],
         };
-        assert_eq!(answer, 0);
+        println!("{row}");
+    }
+    let [library, peer, copy] = [0, 1, 2].map(|doer| {
+        let times = sizes.iter().map(|size| size[doer]);
+        times.clone().fold(0.0, f64::max) / times.fold(f64::INFINITY, f64::min)
     });
-    figures.named("tables", 1, "ms", 1e6)
-}
-
-/// Repair of a whole store.
-fn repair(name: &str, rounds: usize, lines: &[u8], stores: &Stores, b: &mut Buffers) -> Figures {
-    let (rows, columns) = (&stores.row_table, &stores.column_table);
-    let mut passes = 0;
-    let figures = measure(rounds, |which| {
-        let (out, marks) = (&mut b.out, &mut b.marks);
-        let answer = match which {
-            timing::Which::Library => {
-                let given = sudoku::c::repair(SIDE, SIDE, lines, rows, columns, out, marks);
-                passes = given.1;
-                given.0
-            }
-            timing::Which::Peer => {
-                let given = peer::repair(SIDE, SIDE, lines, rows, columns, out, marks);
-                assert_eq!(given.passes, passes);
-                given.answer
-            }
-            timing::Which::Copy => copy(lines, out),
-        };
-        assert_eq!(answer, 0);
-    });
-    figures.named(&format!("{name}, passes {passes}"), 1, "ms", 1e6)
-}
-
-/// Copies the lines; gives answer 0.
-fn copy(lines: &[u8], out: &mut [u8]) -> u32 {
-    out.copy_from_slice(black_box(lines));
-    black_box(&out);
-    0
+    let met = met(library, GROWTH);
+    println!(
+        "| growth of these, largest / smallest \
+         | {library:.2} | {peer:.2} | {copy:.2} | | | {GROWTH} | {met} |"
+    );
 }
 
 fn main() {
-    let stores = Stores::new();
-    let mut buffers = Buffers::new();
-    println!("| | library | peer | copy | library / peer | library / copy |");
-    println!("|---|---|---|---|---|---|");
-    let write = single(
-        "write a line",
-        &stores.data[..FEW * 64],
-        64,
-        |data, line| assert_eq!(sudoku::c::write_line(data, line), 0),
-        |data, line| assert_eq!(peer::write_line(data, line), 0),
-    );
-    println!("{write}");
-    let read = single(
-        "read a line",
-        &stores.clean[..FEW * LINE_BYTES],
-        LINE_BYTES,
-        |line, out| assert_eq!(sudoku::c::read_line(line, out), (0, 0)),
-        |line, out| assert_eq!(peer::read_line(line, out).answer, 0),
-    );
-    println!("{read}");
-    println!("{}", tables(&stores, &mut buffers));
-    let b = &mut buffers;
-    println!(
-        "{}",
-        repair("repair, clean", ROUNDS, &stores.clean, &stores, b)
-    );
-    println!(
-        "{}",
-        repair("repair, lightly hurt", ROUNDS, &stores.light, &stores, b)
-    );
-    println!(
-        "{}",
-        repair("repair, chained", 3, &stores.chained, &stores, b)
-    );
+    let data = stores::data(SIDE * SIDE);
+    let clean_stores = SIDES.map(Store::new);
+    let [small, middle, clean] = &clean_stores;
+    let light = &clean.lightly_hurt();
+    let past = &clean.past_repair();
+    let chained = &clean.chained();
+
+    compare_writing(&data);
+    compare(small, (0, 0));
+    compare(middle, (0, 0));
+    // Each repair with its answer, passes and bars.
+    let repairs: [(_, _, _, _, &[Bar]); 4] = [
+        ("clean", clean, 0, 0, &[Bar::Peer(0.85), Bar::Copies(6.0)]),
+        ("lightly hurt", light, 0, 1, &[Bar::Peer(0.85)]),
+        ("hurt past repair", past, 11, 3, &[Bar::Peer(0.85)]),
+        ("chained", chained, 0, 256, &[Bar::Peer(1.0)]),
+    ];
+    for (_, store, answer, passes, _) in repairs {
+        compare(store, (answer, passes));
+    }
+
+    println!("{HEAD}");
+    let few_data = &data[..FEW * DATA_BYTES];
+    single("write a line", few_data, DATA_BYTES, |doer, data, line| {
+        black_box(doer.write_line(data, line));
+    });
+    let few_lines = &clean.lines[..FEW * LINE_BYTES];
+    single("read a line", few_lines, LINE_BYTES, |doer, line, out| {
+        black_box(doer.read_line(line, out));
+    });
+    let mut buffers = Buffers::new(SIDE);
+    whole("tables", &[Bar::Peer(0.85)], |doer| {
+        black_box(doer.make_tables(black_box(clean), &mut buffers));
+        black_box(&buffers);
+    });
+    for (name, store, answer, passes, bars) in repairs {
+        let name = format!("repair, {name}, answer {answer}, passes {passes}");
+        whole(&name, bars, |doer| {
+            black_box(doer.repair(black_box(store), &mut buffers));
+            black_box(&buffers);
+        });
+    }
+    growth(&clean_stores);
 }

@@ -1,31 +1,32 @@
-//! The stores that are measured, 512 by 512 lines each.
+//! The stores that are measured, the same in every run.
 
-/// Rows and columns.
-pub const SIDE: usize = 512;
+/// Bytes of a line's data.
+pub const DATA_BYTES: usize = 64;
 
 /// Bytes of one line.
 pub const LINE_BYTES: usize = 70;
 
-/// Data, and stores written from them.
-pub struct Stores {
-    /// 64 bytes for each line.
-    pub data: Vec<u8>,
-    /// The lines as written.
-    pub clean: Vec<u8>,
-    /// One line in a hundred lost a bit, one in two thousand two.
-    pub light: Vec<u8>,
-    /// A staircase hurt alike throughout, so that each pass opens its ends.
-    pub chained: Vec<u8>,
-    /// The parity lines of the rows.
+/// Places of one line, and how many of them come before the first spare bit.
+const PLACES: usize = 553;
+const PROTECTED: usize = 543;
+
+/// A square store, as repair is given it.
+pub struct Store {
+    /// Its rows, as many as its columns.
+    pub side: usize,
+    /// Its lines.
+    pub lines: Vec<u8>,
+    /// The parity lines of its rows.
     pub row_table: Vec<u8>,
-    /// The parity lines of the columns.
+    /// The parity lines of its columns.
     pub column_table: Vec<u8>,
 }
 
-/// Buffers that are written.
+/// Buffers that are written: lines, marks and tables of a store.
+#[derive(PartialEq, Eq)]
 pub struct Buffers {
     /// Lines.
-    pub out: Vec<u8>,
+    pub lines: Vec<u8>,
     /// Marks.
     pub marks: Vec<u8>,
     /// A row table.
@@ -35,73 +36,121 @@ pub struct Buffers {
 }
 
 impl Buffers {
-    /// Buffers for one store.
-    pub fn new() -> Buffers {
+    /// Buffers for a square store of this side.
+    pub fn new(side: usize) -> Buffers {
         Buffers {
-            out: vec![0; SIDE * SIDE * LINE_BYTES],
-            marks: vec![0; SIDE * SIDE],
-            row_table: vec![0; SIDE * LINE_BYTES],
-            column_table: vec![0; SIDE * LINE_BYTES],
+            lines: vec![0; side * side * LINE_BYTES],
+            marks: vec![0; side * side],
+            row_table: vec![0; side * LINE_BYTES],
+            column_table: vec![0; side * LINE_BYTES],
         }
     }
 }
 
-impl Stores {
-    /// The stores, the same in every run.
-    pub fn new() -> Stores {
-        let count = SIDE * SIDE;
-        let mut data = vec![0; count * 64];
-        fill(&mut data);
-        let mut clean = vec![0; count * LINE_BYTES];
-        for (data, line) in data.chunks(64).zip(clean.chunks_mut(LINE_BYTES)) {
+/// Data for so many lines.
+pub fn data(lines: usize) -> Vec<u8> {
+    let mut random = Random(1);
+    let byte = |_| random.below(256) as u8;
+    (0..lines * DATA_BYTES).map(byte).collect()
+}
+
+impl Store {
+    /// A square store of this side, as written.
+    pub fn new(side: usize) -> Store {
+        let mut lines = vec![0; side * side * LINE_BYTES];
+        let data = data(side * side);
+        for (data, line) in data.chunks(DATA_BYTES).zip(lines.chunks_mut(LINE_BYTES)) {
             peer::write_line(data, line);
         }
-        let mut row_table = vec![0; SIDE * LINE_BYTES];
-        let mut column_table = vec![0; SIDE * LINE_BYTES];
-        peer::make_tables(SIDE, SIDE, &clean, &mut row_table, &mut column_table);
-        Stores {
-            light: lightly_hurt(clean.clone()),
-            chained: chained(clean.clone()),
-            data,
-            clean,
+        let mut row_table = vec![0; side * LINE_BYTES];
+        let mut column_table = vec![0; side * LINE_BYTES];
+        peer::make_tables(side, side, &lines, &mut row_table, &mut column_table);
+        Store {
+            side,
+            lines,
             row_table,
             column_table,
         }
     }
-}
 
-/// Fills the bytes with something that isn't regular.
-fn fill(bytes: &mut [u8]) {
-    let mut state = 1u64;
-    for byte in bytes {
-        state = state
-            .wrapping_mul(6364136223846793005)
-            .wrapping_add(1442695040888963407);
-        *byte = (state >> 56) as u8;
+    /// The store with one line in 97 that lost a bit and one in 2003 that lost
+    /// two.
+    pub fn lightly_hurt(&self) -> Store {
+        self.hurt(|line, n| {
+            if n.is_multiple_of(97) {
+                flip(line, 8 * (n % DATA_BYTES));
+            }
+            if n.is_multiple_of(2003) {
+                flip_two(line);
+            }
+        })
     }
-}
 
-/// Flips the first two places of line n.
-fn flip_two(lines: &mut [u8], n: usize) {
-    lines[n * LINE_BYTES] ^= 3;
-}
-
-fn lightly_hurt(mut lines: Vec<u8>) -> Vec<u8> {
-    for n in (0..SIDE * SIDE).step_by(97) {
-        lines[n * LINE_BYTES + n % 64] ^= 1;
+    /// The store hurt past repair: about one line in fifty lost a bit, and one
+    /// in 97 three to five, anywhere (fewer, should a place come twice).
+    pub fn past_repair(&self) -> Store {
+        let mut random = Random(2);
+        self.hurt(|line, _| {
+            if random.below(50) == 0 {
+                flip(line, random.below(PLACES));
+            }
+            if random.below(97) == 0 {
+                for _ in 0..3 + random.below(3) {
+                    flip(line, random.below(PLACES));
+                }
+            }
+        })
     }
-    for n in (0..SIDE * SIDE).step_by(2003) {
-        flip_two(&mut lines, n);
-    }
-    lines
-}
 
-fn chained(mut lines: Vec<u8>) -> Vec<u8> {
-    for i in 0..SIDE {
-        flip_two(&mut lines, i * SIDE + i);
-        if i + 1 < SIDE {
-            flip_two(&mut lines, i * SIDE + i + 1);
+    /// The store with a staircase of lines hurt alike, of which each pass can
+    /// mend the ends only.
+    pub fn chained(&self) -> Store {
+        self.hurt(|line, n| {
+            let (row, column) = (n / self.side, n % self.side);
+            if column == row || column == row + 1 {
+                flip_two(line);
+            }
+        })
+    }
+
+    /// The store with each line hurt in this way, which is told its number.
+    fn hurt(&self, mut way: impl FnMut(&mut [u8], usize)) -> Store {
+        let mut lines = self.lines.clone();
+        for (n, line) in lines.chunks_mut(LINE_BYTES).enumerate() {
+            way(line, n);
+        }
+        Store {
+            side: self.side,
+            lines,
+            row_table: self.row_table.clone(),
+            column_table: self.column_table.clone(),
         }
     }
-    lines
+}
+
+/// Flips a place of a line.
+fn flip(line: &mut [u8], place: usize) {
+    // One bit is spare before the Hamming bits.
+    let bit = place + usize::from(place >= PROTECTED);
+    line[bit / 8] ^= 1 << (bit % 8);
+}
+
+/// Flips the first two places of a line.
+fn flip_two(line: &mut [u8]) {
+    flip(line, 0);
+    flip(line, 1);
+}
+
+/// Numbers that aren't regular.
+struct Random(u64);
+
+impl Random {
+    /// A number below `bound`, which is at most 65536.
+    fn below(&mut self, bound: usize) -> usize {
+        self.0 = self
+            .0
+            .wrapping_mul(6364136223846793005)
+            .wrapping_add(1442695040888963407);
+        ((self.0 >> 48) as usize * bound) >> 16
+    }
 }

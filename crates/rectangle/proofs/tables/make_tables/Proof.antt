@@ -1,10 +1,13 @@
 -- `rectangle::tables::make_tables` meets its contract: each way out is one of the refusals, or both tables made.
-use mathlib.Core.Path.{sym, _∙_}
+use mathlib.Core.Path.{refl, sym, ap, _∙_}
+use Prim.Native.Nat.{ℕ}
 use native.Mathlib.Omega.{arith}
 use borrow.Author.Needs.{needs}
 use borrow.Author.Tests.{not-true, not-false}
-use Rattle.rectangle.proofs.Area.{area}
+use lib.ListN.{take}
+use Rattle.rectangle.proofs.Groups.{sides}
 use Rattle.rectangle.proofs.Refusing.{SizesPass, sizes-passed, tables-sizes, tables-faulty, tables-refused, tables-made}
+use Rattle.rectangle.proofs.Sweeping.{unswept}
 use Rattle.rectangle.proofs.tables.make_tables.Statement.{statement}
 use Rattle.rectangle.proofs.tables.make_tables.Tie as tie
 
@@ -27,25 +30,51 @@ fit c =
     sizes-passed (a .rows) (a .columns) (a .lines .now) (a .row-table .now) (a .column-table .now) _
     (c .before .refusal .ensures) (c .if1 .left)
 
-mul-all-accepted : tie.Need-mul-all-accepted
-mul-all-accepted c = omega (arith, area _ _ (fit c .sides))
+slices-requires : tie.Need-slices-requires
+slices-requires c κs = search needs
 
-all-accepted-requires : tie.Need-all-accepted-requires
-all-accepted-requires c κs = omega (arith, fit c .lineBytes)
+slice-aggregate-sweep : tie.Need-slice-aggregate-sweep
+slice-aggregate-sweep c = search needs
+
+slice-aggregate-sweep-2 : tie.Need-slice-aggregate-sweep-2
+slice-aggregate-sweep-2 c = search needs
+
+sweep-requires : tie.Need-sweep-requires
+sweep-requires c κs =
+    let sized = c .before .before .before .before in
+    let a = sized .before .before .before .before .before .args in
+    let p = fit sized in
+    let s = sides _ _ (p .sides) in
+    (c .before .before .before .slices .ensures ,
+    unswept (a .rows) (a .columns) (a .lines .now) 35840 refl (s .rowsHigh) (s .columnsHigh) (omega (arith, p .lineBytes)))
 
 returns-2 : tie.Need-returns-2
 returns-2 c =
-    let a = c .before .before .before .before .before .before .before .args in
+    let swept = c .before .before .before in
+    let sized = swept .before .before .before .before .before in
+    let a = sized .before .before .before .before .before .args in
     tables-refused (a .rows) (a .columns) (a .lines .now) (a .row-table .now) (a .column-table .now) 10
-    (tables-faulty (a .rows) (a .columns) (a .lines .now) (a .row-table .now) (a .column-table .now) (fit (c .before .before))
-    (sym (c .before .all-accepted .ensures) ∙ not-true _ (c .if2 .taken)))
+    (tables-faulty (a .rows) (a .columns) (a .lines .now) (a .row-table .now) (a .column-table .now) (fit sized)
+    (sym (swept .sweep .ensures .answer) ∙ not-true _ (c .if2 .taken)))
     (λ z. omega arith)
 
-fill-rows-requires : tie.Need-fill-rows-requires
-fill-rows-requires c κs = let p = fit (c .before .before .before) in (omega (arith, p .lineBytes), p .rowBytes)
+slice-aggregate-copy-sums : tie.Need-slice-aggregate-copy-sums
+slice-aggregate-copy-sums c = search needs
 
-fill-columns-requires : tie.Need-fill-columns-requires
-fill-columns-requires c κs = let p = fit (c .before .before .before .before .before .before .before) in (omega (arith, p .lineBytes), p .columnBytes)
+copy-sums-requires : tie.Need-copy-sums-requires
+copy-sums-requires c κs =
+    let swept = c .before .before .before .before .before in
+    let p = fit (swept .before .before .before .before .before) in
+    omega (arith, p .rowBytes, sides _ _ (p .sides) .rowsHigh, swept .sweep .ensures .rowRoom)
+
+slice-aggregate-copy-sums-2 : tie.Need-slice-aggregate-copy-sums-2
+slice-aggregate-copy-sums-2 c = search needs
+
+copy-sums-requires-2 : tie.Need-copy-sums-requires-2
+copy-sums-requires-2 c κs =
+    let swept = c .before .before .before .before .before .before .before .before .before .before in
+    let p = fit (swept .before .before .before .before .before) in
+    omega (arith, p .columnBytes, sides _ _ (p .sides) .columnsHigh, swept .sweep .ensures .columnRoom)
 
 same-length : tie.Need-same-length
 same-length c = search needs
@@ -55,15 +84,19 @@ same-length-2 c = search needs
 
 returns-3 : tie.Need-returns-3
 returns-3 c =
-    let column = c .before .before in
-    let row = column .before .before .before .before in
-    let accepted = row .before .before in
-    let sized = accepted .before .before in
+    let columns = c .before .before in
+    let rows = columns .before .before .before .before .before in
+    let accepted = rows .before .before .before in
+    let swept = accepted .before .before .before in
+    let sized = swept .before .before .before .before .before in
     let a = sized .before .before .before .before .before .args in
-    tables-made (a .rows) (a .columns) (a .lines .now) (a .row-table .now) (a .column-table .now) _ _ (fit sized)
-    (sym (accepted .before .all-accepted .ensures) ∙ not-false _ (accepted .if2 .left))
-    (row .fill-rows .ensures)
-    (column .fill-columns .ensures)
+    let p = fit sized in
+    let sums = swept .sweep .last .1 .1 .1 .1 in
+    let all = not-false _ (accepted .if2 .left) in
+    tables-made (a .rows) (a .columns) (a .lines .now) (a .row-table .now) (a .column-table .now) _ _ p
+    (sym (swept .sweep .ensures .answer) ∙ all)
+    (rows .copy-sums .ensures ∙ ap (λ (k : ℕ). take k (sums .0)) (p .rowBytes) ∙ swept .sweep .ensures .rowTable all)
+    (columns .copy-sums2 .ensures ∙ ap (λ (k : ℕ). take k (sums .1 .0)) (p .columnBytes) ∙ swept .sweep .ensures .columnTable all)
 
 pub make-tables-spec : {M : Type 1} → statement M
 make-tables-spec =
@@ -71,11 +104,15 @@ make-tables-spec =
     (tie.spec
     refusal-requires
     returns
-    mul-all-accepted
-    all-accepted-requires
+    slices-requires
+    slice-aggregate-sweep
+    slice-aggregate-sweep-2
+    sweep-requires
     returns-2
-    fill-rows-requires
-    fill-columns-requires
+    slice-aggregate-copy-sums
+    copy-sums-requires
+    slice-aggregate-copy-sums-2
+    copy-sums-requires-2
     same-length
     same-length-2
     returns-3)

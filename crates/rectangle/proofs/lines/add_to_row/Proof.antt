@@ -1,8 +1,8 @@
--- `rectangle::change::add_to_row` meets its contract.
+-- `rectangle::lines::add_to_row` meets its contract.
 use borrow.Author.Needs.{needs}
 use Rattle.rectangle.proofs.Changing.{added}
-use Rattle.rectangle.proofs.change.add_to_row.Statement.{statement}
-use Rattle.rectangle.proofs.change.add_to_row.Tie as tie
+use Rattle.rectangle.proofs.lines.add_to_row.Statement.{statement}
+use Rattle.rectangle.proofs.lines.add_to_row.Tie as tie
 
 row-parity-requires : tie.Need-row-parity-requires
 row-parity-requires c κs = search needs

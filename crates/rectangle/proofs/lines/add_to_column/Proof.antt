@@ -1,8 +1,8 @@
--- `rectangle::change::add_to_column` meets its contract.
+-- `rectangle::lines::add_to_column` meets its contract.
 use borrow.Author.Needs.{needs}
 use Rattle.rectangle.proofs.Changing.{added}
-use Rattle.rectangle.proofs.change.add_to_column.Statement.{statement}
-use Rattle.rectangle.proofs.change.add_to_column.Tie as tie
+use Rattle.rectangle.proofs.lines.add_to_column.Statement.{statement}
+use Rattle.rectangle.proofs.lines.add_to_column.Tie as tie
 
 column-parity-requires : tie.Need-column-parity-requires
 column-parity-requires c κs = search needs

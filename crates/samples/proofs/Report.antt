@@ -13,19 +13,14 @@ use Rattle.scheme.specs.Repair.{passesFrom, repair, answer}
 use Rattle.rectangle.specs.Store.{readUnder, correctUnder, bytesAt, placesAt, linesIn, row, column, groups}
 use Rattle.rectangle.specs.Refusals.{sideFits, sidesFit, holds, tablesFit, parityCorrect, repairRefusal}
 use Rattle.rectangle.specs.Repair.{repaired, handedOver, repairStore}
 use Rattle.storefile.specs.Bytes.{numberAt}
 use Rattle.storefile.specs.Header.{headerBytes, linesPart, rowTablePart, columnTablePart, fileLength, entry, header, bytesIn}
 use Rattle.storefile.specs.Opening.{rowsIn, columnsIn, sidesWithin, entryIs, entriesFit, contentsFit, openRefusal, opened}
 use Rattle.storefile.specs.Marks.{countOf, countsOf, noCounts}
 use Rattle.storefile.specs.Report.{decimal, spaced, line, storeLine, countLines, linesAbove, handsOver, reportText}
 use Rattle.storefile.specs.Check.{refusedWith, repairOpened, counted, checkStore}
-use Rattle.storefile.specs.Promises.{ZeroStoreReport}
-
-abbrev sameBytes : List ℕ → List ℕ → Bool
-sameBytes [] [] = true
-sameBytes [] (b ∷ y) = false
-sameBytes (a ∷ x) [] = false
-sameBytes (a ∷ x) (b ∷ y) = eqb a b && sameBytes x y
+use Rattle.samples.specs.Samples.{sameBytes}
+use Rattle.samples.specs.Report.{ZeroStoreReport}
 
 same-bytes : (x y : List ℕ) → T (sameBytes x y) → x ≡ y
 same-bytes [] [] t = refl

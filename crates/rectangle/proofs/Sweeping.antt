@@ -1,0 +1,202 @@
+-- The sweep over all rows, one after the other, and its sums as tables.
+use mathlib.Core.Path.{_≡_, sym, ap, ap₂, _∙_}
+use mathlib.Core.Bool.{Bool, true, false, true≢false}
+use mathlib.Core.List.{List, [], _++_, map, append-nil, append-assoc}
+use Prim.Native.Nat.{ℕ, zero, suc, _+_, _-_, _*_, _≤_, _<_}
+use native.Mathlib.Nat.{suc-mul, zero-mul, add-suc, suc-add, add-zero, zero-add, mul-le-mul-right}
+use native.Mathlib.Numerals.{add-one}
+use native.Mathlib.Decide.{decLe}
+use native.Mathlib.Omega.{arith}
+use borrow.Author.Count.{below-more}
+use lib.ListN.{length, take, replicate, length-replicate, getD-replicate}
+use lib.Seq.{take-add, ext-getD}
+use Rattle.gf2.specs.Word.{Word}
+use Rattle.linecode.specs.Places.{lineBytes, lineOf}
+use Rattle.linecode.specs.Code.{upFrom}
+use Rattle.rectangle.specs.Store.{bytesAt, placesAt, bufferOf, putBytes, putLine, row, column}
+use Rattle.rectangle.specs.Refusals.{acceptedAt}
+use Rattle.rectangle.specs.Tables.{rowParity, columnParity, rowTableOf, columnTableOf}
+use Rattle.rectangle.specs.Sweep.{RowSwept, Unswept, Swept}
+use Rattle.rectangle.proofs.Members.{upFrom-bounds}
+use Rattle.rectangle.proofs.Buffer.{byte-of, length-putLine, bytesAt-put, bytesAt-other}
+use Rattle.rectangle.proofs.Area.{column-bytes}
+use Rattle.rectangle.proofs.Alone.{seventy}
+use Rattle.rectangle.proofs.Tests.{some-fails, from-every, every-below, fails-below}
+use Rattle.rectangle.proofs.Summing.{summed, none-summed, sum-turn}
+
+-- ---- the sums as tables
+-- one line more at the end of a table
+table-snoc : (line : ℕ → Word) (n k : ℕ)
+    → bufferOf (map line (upFrom n (suc k))) ≡ bufferOf (map line (upFrom n k)) ++ lineOf (line (n + k))
+table-snoc line n zero = append-nil (lineOf (line n)) ∙ ap (λ (m : ℕ). lineOf (line m)) (sym (add-zero n))
+table-snoc line n (suc k) =
+    ap (λ (l : List ℕ). lineOf (line n) ++ l)
+    (table-snoc line (suc n) k
+    ∙ ap (λ (m : ℕ). bufferOf (map line (upFrom (suc n) k)) ++ lineOf (line m)) (suc-add n k ∙ sym (add-suc n k)))
+    ∙ sym (append-assoc (lineOf (line n)) (bufferOf (map line (upFrom (suc n) k))) (lineOf (line (n + suc k))))
+
+table-of : (line : ℕ → Word) (sums : List ℕ) (k : ℕ) → ((n : ℕ) → n < k → bytesAt sums n ≡ lineOf (line n))
+    → take (k * 70) sums ≡ bufferOf (map line (upFrom 0 k))
+unfolding bytesAt lineBytes
+table-of line sums zero h = ap (λ (i : ℕ). take i sums) (zero-mul 70)
+table-of line sums (suc k) h =
+    ap (λ (i : ℕ). take i sums) (suc-mul k 70)
+    ∙ take-add (k * 70) 70 sums
+    ∙ ap₂ _++_ (table-of line sums k (λ n i. h n (omega arith))) (h k (omega arith))
+    ∙ ap (λ (m : ℕ). bufferOf (map line (upFrom 0 k)) ++ lineOf (line m)) (sym (zero-add k))
+    ∙ sym (table-snoc line 0 k)
+
+-- zeros are the sums of nothing
+nothing-summed : (size k : ℕ) → size ≡ k * 70 → (n : ℕ) → n < k → bytesAt (replicate size 0) n ≡ lineOf []
+unfolding lineBytes
+nothing-summed size k e n h =
+    ext-getD 0 (bytesAt (replicate size 0) n) (replicate 70 0) (long ∙ sym (length-replicate {A = ℕ} 70 0))
+    (λ i j.
+    let few : i < 70 = omega (arith, long) in
+    byte-of (replicate size 0) n i few
+    ∙ getD-replicate size (n * 70 + i) 0 0 (omega (arith, bytes, suc-mul n 70))
+    ∙ sym (getD-replicate 70 i 0 0 few))
+    ∙ none-summed
+  where
+    bytes : suc n * 70 ≤ k * 70
+    bytes = mul-le-mul-right 70 h
+
+    long : length (bytesAt (replicate size 0) n) ≡ 70
+    long = seventy (replicate size 0) n (omega (arith, length-replicate {A = ℕ} size 0, bytes))
+
+pub unswept : (rows columns : ℕ) (lines : List ℕ) (size : ℕ) → size ≡ 512 * 70 → rows ≤ 512 → columns ≤ 512
+    → rows * columns * 70 ≤ length lines → Unswept rows columns lines (replicate size 0) (replicate size 0)
+unswept rows columns lines size e rowsHigh columnsHigh bytes =
+    record {
+      rowsHigh = rowsHigh;
+      columnsHigh = columnsHigh;
+      lineBytes = bytes;
+      rowRoom = length-replicate {A = ℕ} size 0 ∙ e;
+      columnRoom = length-replicate {A = ℕ} size 0 ∙ e;
+      nothing = λ c h. nothing-summed size 512 e c (omega arith);
+    }
+
+-- ---- the loop over the rows: r of them are summed
+pub record Sweeping (rows columns : ℕ) (lines rowSums columnSums : List ℕ) (first r : ℕ) : Type 0 where
+  pub rowsHigh : rows ≤ 512
+  pub columnsHigh : columns ≤ 512
+  pub lineBytes : rows * columns * 70 ≤ length lines
+  pub few : r ≤ rows
+  pub at : first ≡ r * columns
+  pub rowRoom : length rowSums ≡ 512 * 70
+  pub columnRoom : length columnSums ≡ 512 * 70
+  pub accepted : (n : ℕ) → n < first → acceptedAt lines n ≡ true
+  pub rowSum : (k : ℕ) → k < r → bytesAt rowSums k ≡ lineOf (rowParity columns lines k)
+  pub columnSum : (c : ℕ) → c < columns → bytesAt columnSums c ≡ lineOf (summed lines c columns r)
+
+pub sweep-starts : (rows columns : ℕ) (lines rowSums columnSums : List ℕ) → Unswept rows columns lines rowSums columnSums
+    → Sweeping rows columns lines rowSums columnSums 0 0
+sweep-starts rows columns lines rowSums columnSums u =
+    record {
+      rowsHigh = u .rowsHigh;
+      columnsHigh = u .columnsHigh;
+      lineBytes = u .lineBytes;
+      few = omega arith;
+      at = sym (zero-mul columns);
+      rowRoom = u .rowRoom;
+      columnRoom = u .columnRoom;
+      accepted = λ n h. let z : ⊥ = omega arith in absurd z;
+      rowSum = λ k h. let z : ⊥ = omega arith in absurd z;
+      columnSum = u .nothing;
+    }
+
+module _ (rows columns : ℕ) (lines rowSums columnSums : List ℕ) (first r : ℕ)
+    (s : Sweeping rows columns lines rowSums columnSums first r) where
+  module _ (h : r < rows) where
+    -- the row's lines lie among the lines
+    pub row-in : (first + columns ≤ rows * columns) × ((first + columns) * 70 ≤ length lines)
+    row-in =
+        let last : suc r * columns ≤ rows * columns = mul-le-mul-right columns h in
+        let before : first + columns ≤ rows * columns = omega (arith, s .at, suc-mul r columns) in
+        let bytes : (first + columns) * 70 ≤ rows * columns * 70 = mul-le-mul-right 70 before in
+        (before, omega (arith, s .lineBytes))
+
+    -- and its sum inside the sums
+    pub row-sum-in : suc r * 70 ≤ length rowSums
+    row-sum-in =
+        let below : suc r ≤ 512 = omega (arith, s .rowsHigh) in
+        let all : suc r * 70 ≤ 512 * 70 = mul-le-mul-right 70 below in
+        omega (arith, s .rowRoom)
+
+    module _ (columnSums′ line : List ℕ) (all : Bool) (w : RowSwept lines first columns columnSums columnSums′ line all) where
+      -- a faulty line ends the sweep
+      pub sweep-faulty : all ≡ false → Swept rows columns lines rowSums columnSums′ false
+      sweep-faulty e =
+          let f = some-fails (acceptedAt lines) (upFrom first columns) (sym (w .answer) ∙ e) in
+          let below = upFrom-bounds first columns (f .0) (f .1) .1 in
+          record {
+            rowRoom = s .rowRoom;
+            columnRoom = w .kept ∙ s .columnRoom;
+            answer = sym (fails-below (acceptedAt lines) (rows * columns) (f .0) (omega (arith, below, row-in .0)) (f .2));
+            rowTable = λ z. absurd (true≢false (sym z));
+            columnTable = λ z. absurd (true≢false (sym z));
+          }
+
+      module _ (e : all ≡ true) (rowSums′ : List ℕ) (g : rowSums′ ≡ putBytes rowSums r line) where
+        whole : length rowSums ≡ 512 * lineBytes
+        unfolding lineBytes
+        whole = s .rowRoom
+
+        below : r < 512
+        below = omega (arith, s .rowsHigh)
+
+        put : rowSums′ ≡ putLine rowSums r (rowParity columns lines r)
+        unfolding putLine rowParity row
+        put =
+            g
+            ∙ ap (putBytes rowSums r)
+            (w .row e ∙ ap (λ (n : ℕ). lineOf (summed lines n 1 columns)) (s .at))
+
+        still-accepted : (n : ℕ) → n < first + columns → acceptedAt lines n ≡ true
+        still-accepted n i = go (decLe first n)
+          where
+            go : Dec (first ≤ n) → acceptedAt lines n ≡ true
+            go (no d) = s .accepted n (omega arith)
+            go (yes b) =
+                let at : n ≡ first + (n - first) = omega arith in
+                ap (acceptedAt lines) at
+                ∙ from-every (acceptedAt lines) first columns (sym (w .answer) ∙ e) (n - first) (omega arith)
+
+        pub sweep-more : Sweeping rows columns lines rowSums′ columnSums′ (first + columns) (r + 1)
+        unfolding placesAt
+        sweep-more =
+            record {
+              rowsHigh = s .rowsHigh;
+              columnsHigh = s .columnsHigh;
+              lineBytes = s .lineBytes;
+              few = omega arith;
+              at = omega (arith, s .at, suc-mul r columns, add-one r);
+              rowRoom = ap length put ∙ length-putLine 512 rowSums whole r below (rowParity columns lines r) ∙ sym whole ∙ s .rowRoom;
+              columnRoom = w .kept ∙ s .columnRoom;
+              accepted = still-accepted;
+              rowSum = below-more _ _
+                  (λ k i.
+                  ap (λ (b : List ℕ). bytesAt b k) put
+                  ∙ bytesAt-other 512 rowSums whole r below (rowParity columns lines r) k (omega arith) (λ z. omega arith)
+                  ∙ s .rowSum k i)
+                  (ap (λ (b : List ℕ). bytesAt b r) put ∙ bytesAt-put 512 rowSums whole r below (rowParity columns lines r));
+              columnSum = λ c i.
+                  sum-turn lines c columns r (first + c) (bytesAt columnSums c) (bytesAt columnSums′ c) (omega (arith, s .at))
+                  (λ j b. column-bytes rows columns (length lines) (s .lineBytes) c i j (omega arith)) (s .columnSum c i)
+                  (w .added e c i);
+            }
+
+  pub sweep-ends : rows ≤ r → Swept rows columns lines rowSums columnSums true
+  unfolding rowTableOf columnTableOf columnParity column
+  sweep-ends h =
+      let e : r ≡ rows = omega (arith, s .few) in
+      record {
+        rowRoom = s .rowRoom;
+        columnRoom = s .columnRoom;
+        answer = sym (every-below (acceptedAt lines) (rows * columns)
+            (λ n i. s .accepted n (omega (arith, s .at, ap (λ (k : ℕ). k * columns) e))));
+        rowTable = λ z. table-of (rowParity columns lines) rowSums rows (λ k i. s .rowSum k (omega arith));
+        columnTable = λ z.
+            table-of (columnParity rows columns lines) columnSums columns
+            (λ c i. s .columnSum c i ∙ ap (λ (k : ℕ). lineOf (summed lines c columns k)) e);
+      }
