@@ -1,4 +1,4 @@
--- Bytes and their bits: what the language tells of an array of bytes, and that bits and bytes undo one another.
+-- Bytes and their bits: bits and bytes undo one another.
 use mathlib.Core.Path.{_≡_, refl, sym, ap, ap₂, _∙_, subst}
 use mathlib.Core.Bool.{Bool, true, false, not}
 use mathlib.Core.List.{List, [], _∷_, _++_, append-nil}
@@ -11,35 +11,13 @@ use lib.Dec.{eqb}
 use lib.ListN.{length, take, drop, getD, set, length-take, length-drop, take-append-drop, drop-of-length-le, List·getD-append}
 use lib.Seq.{take-all, take-nil, getD-append-add}
 use lib.Pow.{pow-mono}
-use mir.Syntax.{w8}
-use mir.Val.{Val}
-use denote.Laws.{Is}
-use denote.Plain.{UInt}
-use denote.Array.{Array, each}
-use denote.Shadow.{shadow}
 use Rattle.gf2.specs.Word.{Word, _⊻_, _⊕_, zeros, flip, digits, number}
 use Rattle.gf2.specs.Check.{bit}
 use Rattle.gf2.proofs.Xor.{xor-append, xor-zeros}
 use Rattle.gf2.proofs.Digits.{number-small, number-lt, digits-number, digits-zero, digits-xor, getD-digits}
 use Rattle.gf2.proofs.Weight.{flip-append, flip-append-add}
+pub use Rattle.register.proofs.Bytes.{Bytes, array-length, array-bytes, byte-at, array-byte}
 use Rattle.linecode.specs.Places.{bitsOf, bytesOf}
-
--- each number is a byte
-abbrev pub Bytes : List ℕ → Type 0
-Bytes [] = Unit {0}
-Bytes (b ∷ bs) = (b < 256) × Bytes bs
-
-bytes-each : (xs : List ℕ) (us : List Val) → shadow (each ℕ (UInt w8 .own) xs us) → Bytes xs
-bytes-each [] us p = tt
-bytes-each (x ∷ xs) [] p = absurd p
-bytes-each (x ∷ xs) (u ∷ us) p = (p .0 .1, bytes-each xs us (p .1))
-
--- what owning an array of n bytes tells
-pub array-length : (n : ℕ) (xs : List ℕ) (vs : List Val) → Is (Array (UInt w8) n) xs vs → length xs ≡ n
-array-length n xs vs p = p .1 .0 .1
-
-pub array-bytes : (n : ℕ) (xs : List ℕ) (vs : List Val) → Is (Array (UInt w8) n) xs vs → Bytes xs
-array-bytes n xs vs p = bytes-each xs (p .0) (p .1 .1)
 
 pub bytes-take : (n : ℕ) (l : List ℕ) → Bytes l → Bytes (take n l)
 bytes-take zero l p = tt
@@ -49,14 +27,6 @@ bytes-take (suc n) (b ∷ l) p = (p .0, bytes-take n l (p .1))
 pub bytes-append : (x y : List ℕ) → Bytes x → Bytes y → Bytes (x ++ y)
 bytes-append [] y p q = q
 bytes-append (b ∷ x) y p q = (p .0, bytes-append x y (p .1) q)
-
-pub byte-at : (l : List ℕ) (i : ℕ) → Bytes l → getD l i 0 < 256
-byte-at [] i p = omega arith
-byte-at (b ∷ l) zero p = p .0
-byte-at (b ∷ l) (suc i) p = byte-at l i (p .1)
-
-pub array-byte : (n : ℕ) (xs : List ℕ) (vs : List Val) → Is (Array (UInt w8) n) xs vs → (i : ℕ) → getD xs i 0 < 256
-array-byte n xs vs p i = byte-at xs i (array-bytes n xs vs p)
 
 -- ---- bits of bytes
 pub length-bitsOf : (l : List ℕ) → length (bitsOf l) ≡ 8 * length l

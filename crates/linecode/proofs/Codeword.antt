@@ -17,7 +17,7 @@ use Rattle.linecode.specs.Places.{dataPlaces, protectedPlaces, linePlace
 use Rattle.linecode.specs.Code.{protected, dataOf, storedCrc, storedHamming, accepted, positions, hamming, withCrc, withHamming, codeword, isCorrect, Correct}
 use Rattle.linecode.proofs.Line.{protected-is, data-is, places-is, protected-lineOf, length-places}
 use Rattle.linecode.proofs.Positions.{hamming-digits, position-sum-lt}
-use Rattle.linecode.proofs.Slicing.{length-generator}
+use Rattle.register.proofs.Slicing.{length-generator}
 
 -- ---- the CRC as a number
 pub crc-number-lt : (d : Word) → number (crc generator d) < 2147483648

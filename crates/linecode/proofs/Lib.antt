@@ -6,11 +6,9 @@ pub mod Loading
 pub mod Positions
 pub mod Syndrome
 pub mod CrcTable
+pub mod CrcRegister
 pub mod Codeword
 pub mod ReadAlone
 pub mod Entry
 pub mod Lines
 pub mod Promises
-pub mod Slicing
-pub mod TableRule
-pub mod Feeding

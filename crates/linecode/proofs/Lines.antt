@@ -26,7 +26,7 @@ use Rattle.linecode.specs.Code.{protected, dataOf, storedCrc, storedHamm
 use Rattle.linecode.proofs.Line.{protected-is, data-is, places-is}
 use Rattle.linecode.proofs.Positions.{hamming-digits, position-sum-lt}
 use Rattle.linecode.proofs.Syndrome.{syndrome-parts}
-use Rattle.linecode.proofs.CrcTable.{length-generator}
+use Rattle.register.proofs.Slicing.{length-generator}
 use Rattle.linecode.proofs.Codeword.{length-protected, accepted-crc, accepted-written, length-dataOf, length-withCrc, length-codeword, protected-codeword, dataOf-codeword}
 
 -- ---- a correct line is the codeword of its data

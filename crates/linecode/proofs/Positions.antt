@@ -15,6 +15,7 @@ use Rattle.gf2.specs.Word.{Word, digits, number}
 use Rattle.gf2.specs.Check.{columnSum, hammingBit, bit}
 use Rattle.gf2.proofs.Digits.{bitXor-assoc}
 use Rattle.gf2.proofs.Hamming.{hammingBit-bit}
+pub use Rattle.register.proofs.TableRule.{and-parts}
 use Rattle.linecode.specs.Places.{hammingPlaces}
 use Rattle.linecode.specs.Code.{positions, hammingColumns, upFrom, hamming, withHamming}
 
@@ -43,10 +44,6 @@ position-last = refl
 abbrev pub allBelow : ℕ → List ℕ → Bool
 allBelow n [] = true
 allBelow n (c ∷ cs) = ltb c n && allBelow n cs
-
-pub and-parts : (a b : Bool) → T (a && b) → T a × T b
-and-parts true b t = (tt, t)
-and-parts false b t = absurd t
 
 columnSum-lt : (k : ℕ) (cs : List ℕ) (w : Word) → T (allBelow (2 ^ k) cs) → columnSum cs w < 2 ^ k
 columnSum-lt k [] w t = pow-pos k

@@ -28,7 +28,7 @@ use Rattle.linecode.specs.declared.hamming.Answer.{Answer}
 use Rattle.linecode.specs.declared.hamming.Answer.the-variants.{None, Hamming, Protected}
 use Rattle.linecode.proofs.Bytes.{length-bitsOf}
 use Rattle.linecode.proofs.Line.{protected-is, data-is, places-is, places-lineOf}
-use Rattle.linecode.proofs.CrcTable.{length-generator}
+use Rattle.register.proofs.Slicing.{length-generator}
 use Rattle.linecode.proofs.Codeword.{length-codeword, length-protected}
 use Rattle.linecode.proofs.Syndrome.{none-zero, none-above, none-exactly, position-named, column-position}
 use Rattle.linecode.proofs.ReadAlone.{read-clean, read-flip, in-bytes}

@@ -8,6 +8,7 @@ use lib.ListN.{take, drop, getD}
 use Rattle.gf2.specs.Word.{Word, same}
 use Rattle.gf2.specs.Check.{divisible, crc, hammingBit, columnSum}
 use Rattle.gf2.specs.Generator.{generator}
+pub use Rattle.register.specs.Slices.{upFrom}
 use Rattle.linecode.specs.Places.{dataPlaces, protectedPlaces, hammingPlaces, linePlaces}
 use Rattle.linecode.specs.declared.hamming.Answer.{Answer}
 use Rattle.linecode.specs.declared.hamming.Answer.the-variants.{None, Hamming, Protected}
@@ -30,11 +31,6 @@ storedCrc w = drop dataPlaces (protected w)
 
 unfoldable pub storedHamming : Word → Word
 storedHamming w = drop protectedPlaces w
-
--- k numbers from n upward
-abbrev pub upFrom : ℕ → ℕ → List ℕ
-upFrom n zero = []
-upFrom n (suc k) = n ∷ upFrom (suc n) k
 
 abbrev pub member : ℕ → List ℕ → Bool
 member n [] = false

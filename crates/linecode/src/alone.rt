@@ -8,7 +8,7 @@ ghost use mathlib.Core.Bool.{false};
 ghost use Rattle.linecode.specs.Places.{places, lineOf};
 ghost use Rattle.linecode.specs.Code.{dataOf, codeword, accepted, isCorrect};
 ghost use Rattle.linecode.specs.Entry.{written, reading};
-ghost use Rattle.linecode.specs.Slices.{sliceTable};
+ghost use Rattle.register.specs.Slices.{sliceTable};
 
 // A line as it reads alone, and its mark: 0 untouched, 1 after a flip, 4 faulty.
 pub struct Reading {

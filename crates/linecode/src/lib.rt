@@ -3,8 +3,6 @@ pub mod alone;
 pub mod crc;
 pub mod hamming;
 pub mod place;
-pub mod slices;
-mod words;
 
 ghost use mathlib.Core.Path.{_≡_};
 ghost use Rattle.linecode.specs.Entry.{writeAnswer, readAnswer};

@@ -6,18 +6,27 @@ use native.Mathlib.Nat.{suc-mul, zero-add}
 use native.Mathlib.Numerals.{add-one}
 use native.Mathlib.Omega.{arith}
 use lib.ListN.{length, take, drop, getD, set, replicate, length-drop, drop-of-length-le}
-use lib.Seq.{paste, paste-zero, paste-suc, length-paste, take-append-le, take-all}
+use lib.Seq.{paste, paste-zero, paste-suc, length-paste, take-append-le, take-all, length-take-le}
 use Rattle.linecode.specs.Places.{lineBytes, loaded}
 use Rattle.rectangle.specs.Store.{bytesAt, putBytes}
 
--- what is loaded from the part of a buffer that starts at line n
+-- what is loaded from line n of a buffer
 pub loaded-line : (buffer : List ℕ) (n : ℕ) → suc n * 70 ≤ length buffer
-    → loaded (take (length buffer - n * 70) (drop (n * 70) buffer)) ≡ bytesAt buffer n
+    → loaded (take (n * 70 + 70 - n * 70) (drop (n * 70) buffer)) ≡ bytesAt buffer n
 unfolding loaded bytesAt lineBytes
 loaded-line buffer n h =
-    ap (λ (s : List ℕ). take 70 (s ++ replicate 70 0))
-    (take-all (length buffer - n * 70) (drop (n * 70) buffer) (omega (arith, length-drop (n * 70) buffer)))
-    ∙ take-append-le 70 (drop (n * 70) buffer) (replicate 70 0) (omega (arith, length-drop (n * 70) buffer, suc-mul n 70))
+    ap (λ (k : ℕ). take 70 (take k line ++ replicate 70 0)) (size (n * 70))
+    ∙ take-append-le 70 (take 70 line) (replicate 70 0) (omega (arith, whole))
+    ∙ take-all 70 (take 70 line) (omega (arith, whole))
+  where
+    line : List ℕ
+    line = drop (n * 70) buffer
+
+    size : (at : ℕ) → at + 70 - at ≡ 70
+    size at = omega arith
+
+    whole : length (take 70 line) ≡ 70
+    whole = length-take-le 70 line (omega (arith, length-drop (n * 70) buffer, suc-mul n 70))
 
 -- the loop that writes so many bytes: i of them stand in the buffer
 pub record Pasting (old bytes : List ℕ) (at size : ℕ) (buffer : List ℕ) (i : ℕ) : Type 0 where

@@ -8,7 +8,7 @@ ghost use Prim.Native.Nat.{suc, _*_, _≤_};
 ghost use lib.ListN.{length};
 ghost use Rattle.linecode.specs.Places.{places};
 ghost use Rattle.linecode.specs.Entry.{reading};
-ghost use Rattle.linecode.specs.Slices.{sliceTable};
+ghost use Rattle.register.specs.Slices.{sliceTable};
 ghost use Rattle.rectangle.specs.Store.{bytesAt, putBytes};
 ghost use Rattle.rectangle.specs.Change.{addTo};
 
@@ -23,7 +23,8 @@ pub fn line_at(buffer: &[u8], n: usize) -> [u8; 70]
     ensures { λ r. ⌜ r ≡ bytesAt (now (buffer .entry)) n ⌝ }
 {
     let at = n * 70;
-    place::load(&buffer[at..])
+    // A part whose length is known is copied without a loop.
+    place::load(&buffer[at..at + 70])
 }
 
 // Line n of a buffer, written.

@@ -9,7 +9,7 @@ use linecode::place;
 ghost use mathlib.Core.Path.{_≡_};
 ghost use Prim.Native.Nat.{_+_, _*_, _≤_};
 ghost use lib.ListN.{length, take};
-ghost use Rattle.linecode.specs.Slices.{sliceTable};
+ghost use Rattle.register.specs.Slices.{sliceTable};
 ghost use Rattle.rectangle.specs.Sweep.{RowSwept, Unswept, Swept};
 ghost use Rattle.rectangle.specs.Tables.{TablesMade, makeTables};
 
@@ -119,7 +119,7 @@ pub fn make_tables(
     // Refusal 10 writes nothing and is known after the last line only, so the sums are made apart: 512 lines of 70 bytes each.
     let mut row_sums = [0u8; 35840];
     let mut column_sums = [0u8; 35840];
-    let slices = linecode::slices::slices();
+    let slices = register::slices::slices();
     if !sweep(
         &slices,
         rows,

@@ -1,13 +1,16 @@
 -- `rectangle::lines::line_at` meets its contract.
-use native.Mathlib.Omega.{arith}
-use borrow.Author.Needs.{needs}
 use mathlib.Core.Path.{_∙_}
 use Rattle.rectangle.proofs.Copying.{loaded-line}
+use native.Mathlib.Omega.{arith}
+use borrow.Author.Needs.{needs}
 use Rattle.rectangle.proofs.lines.line_at.Statement.{statement}
 use Rattle.rectangle.proofs.lines.line_at.Tie as tie
 
 mul-at : tie.Need-mul-at
 mul-at c = search needs
+
+add-load : tie.Need-add-load
+add-load c = search needs
 
 sub-load : tie.Need-sub-load
 sub-load c = search needs
@@ -22,8 +25,9 @@ load-requires : tie.Need-load-requires
 load-requires c κs = search needs
 
 returns : tie.Need-returns
-returns c = c .load .ensures ∙ loaded-line (c .before .before .before .args .buffer .now) (c .before .before .before .args .n) (c .before .before .before .pre)
+returns c = let start = c .before .before .before in c .load .ensures ∙ loaded-line (start .args .buffer .now) (start .args .n) (start .pre)
 
 pub line-at-spec : {M : Type 1} → statement M
 line-at-spec =
-    tie.close (tie.spec mul-at sub-load part-load-start part-load-end load-requires returns)
+    tie.close
+    (tie.spec mul-at add-load sub-load part-load-start part-load-end load-requires returns)

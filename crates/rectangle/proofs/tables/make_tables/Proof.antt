@@ -44,9 +44,10 @@ sweep-requires c κs =
     let sized = c .before .before .before .before in
     let a = sized .before .before .before .before .before .args in
     let p = fit sized in
-    let s = sides _ _ (p .sides) in
-    (c .before .before .before .slices .ensures ,
-    unswept (a .rows) (a .columns) (a .lines .now) 35840 refl (s .rowsHigh) (s .columnsHigh) (omega (arith, p .lineBytes)))
+    let s = sides _ _ (p .sides) in (
+      c .before .before .before .slices .ensures,
+      unswept (a .rows) (a .columns) (a .lines .now) 35840 refl (s .rowsHigh) (s .columnsHigh) (omega (arith, p .lineBytes)),
+    )
 
 returns-2 : tie.Need-returns-2
 returns-2 c =

@@ -15,10 +15,8 @@ use Rattle.gf2.proofs.Crc.{zeros-xor}
 use Rattle.gf2.proofs.Digits.{length-digits, digits-number, digits-zero, digits-xor, number-lt, number-small, bitXor-assoc}
 use Rattle.gf2.proofs.Linear.{length-divide, divide-xor}
 use Rattle.gf2.proofs.Register.{feed, feed-append, feed-zeros, feed-digits}
-use Rattle.linecode.specs.Places.{bitsOf}
-use Rattle.linecode.specs.Code.{upFrom}
-use Rattle.linecode.specs.Slices.{eightSteps, next, fed, after}
-use Rattle.linecode.proofs.Bytes.{Bytes}
+use Rattle.register.specs.Slices.{eightSteps, next, fed, after}
+use Rattle.register.proofs.Bytes.{Bytes}
 
 pub length-generator : length generator ≡ 31
 unfolding generator
@@ -56,7 +54,7 @@ less r h = omega arith
 pub next-lt : (r b : ℕ) → r < 2 ^ 31 → next r b < 2 ^ 31
 next-lt r b h = xor-lt 31 (eightSteps (bitXor r b % 256)) (r / 256) (eight-lt (bitXor r b % 256)) (less r h)
 
-feed-byte : (r b : ℕ) → r < 2 ^ 31 → feed generator (digits 31 r) (digits 8 b) ≡ digits 31 (next r b)
+pub feed-byte : (r b : ℕ) → r < 2 ^ 31 → feed generator (digits 31 r) (digits 8 b) ≡ digits 31 (next r b)
 feed-byte r b h =
     feed-digits generator 8 23 r b length-generator h
     ∙ ap (λ (w : Word). w ⊕ digits 31 (r / 256)) (sym (digits-eight (bitXor r b % 256)))
@@ -82,20 +80,25 @@ fed-lt : (r : ℕ) (bs : List ℕ) → r < 2 ^ 31 → fed r bs < 2 ^ 31
 fed-lt r [] h = h
 fed-lt r (b ∷ bs) h = fed-lt (next r b) bs (next-lt r b h)
 
-feed-fed : (r : ℕ) (bs : List ℕ) → r < 2 ^ 31 → feed generator (digits 31 r) (bitsOf bs) ≡ digits 31 (fed r bs)
-feed-fed r [] h = refl
-feed-fed r (b ∷ bs) h =
-    feed-append generator (digits 31 r) (digits 8 b) (bitsOf bs)
-    ∙ ap (λ (w : Word). feed generator w (bitsOf bs)) (feed-byte r b h)
-    ∙ feed-fed (next r b) bs (next-lt r b h)
+fed-append : (r : ℕ) (xs ys : List ℕ) → fed r (xs ++ ys) ≡ fed (fed r xs) ys
+fed-append r [] ys = refl
+fed-append r (x ∷ xs) ys = fed-append (next r x) xs ys
+
+pub after-none : (r : ℕ) → after r [] ≡ r
+unfolding after
+after-none r = refl
+
+pub after-more : (r b : ℕ) (bs : List ℕ) → after r (b ∷ bs) ≡ after (next r b) bs
+unfolding after
+after-more r b bs = refl
 
 pub after-lt : (r : ℕ) (bs : List ℕ) → r < 2 ^ 31 → after r bs < 2 ^ 31
 unfolding after
 after-lt r bs h = fed-lt r bs h
 
-pub feed-after : (r : ℕ) (bs : List ℕ) → r < 2 ^ 31 → feed generator (digits 31 r) (bitsOf bs) ≡ digits 31 (after r bs)
+pub after-append : (r : ℕ) (xs ys : List ℕ) → after r (xs ++ ys) ≡ after (after r xs) ys
 unfolding after
-feed-after r bs h = feed-fed r bs h
+after-append r xs ys = fed-append r xs ys
 
 -- ---- what stood in the register comes through apart from the bytes
 four : (a b c d : ℕ) → bitXor (bitXor a b) (bitXor c d) ≡ bitXor (bitXor a c) (bitXor b d)

@@ -1,6 +1,6 @@
 // The CRC's table for sixteen bytes at a step. A caller that reads many lines binds it once and lends it.
 ghost use mathlib.Core.Path.{_≡_};
-ghost use Rattle.linecode.specs.Slices.{sliceTable};
+ghost use Rattle.register.specs.Slices.{sliceTable};
 
 // Entry 256 k + b: the register when k bytes have followed byte b.
 const SLICES: [u32; 4096] = [

@@ -10,10 +10,12 @@ use lib.Dec.{T, eqb, eqb→eq}
 use lib.ListN.{length, take, drop, getD, length-map, take-append-drop, List·getD-append}
 use lib.Seq.{getD-append-add}
 use Rattle.gf2.specs.Generator.{generator, generatorPolynomial}
-use Rattle.linecode.specs.Code.{upFrom}
-use Rattle.linecode.specs.Slices.{eightSteps, slicesFrom, sliceTable}
-use Rattle.linecode.proofs.Positions.{and-parts}
-use Rattle.linecode.proofs.Slicing.{eight-lt, eight-split, times}
+use Rattle.register.specs.Slices.{upFrom, eightSteps, slicesFrom, sliceTable}
+use Rattle.register.proofs.Slicing.{eight-lt, eight-split, times}
+
+pub and-parts : (a b : Bool) → T (a && b) → T a × T b
+and-parts true b t = (tt, t)
+and-parts false b t = absurd t
 
 -- two lists of numbers are the same
 abbrev pub alike : List ℕ → List ℕ → Bool

@@ -1,11 +1,11 @@
--- `linecode::words::half` meets its contract: bytes side by side add up.
+-- `register::words::half` meets its contract: bytes side by side add up.
 use mathlib.Core.Path.{_≡_, refl, sym, ap, _∙_}
 use Prim.Native.Nat.{ℕ, _+_, _*_, _%_, _<_}
 use native.Mathlib.Omega.{arith}
 use borrow.Author.Needs.{needs}
 use lib.Bits.{bitOr, or-shifted-r}
-use Rattle.linecode.proofs.words.half.Statement.{statement}
-use Rattle.linecode.proofs.words.half.Tie as tie
+use Rattle.register.proofs.words.half.Statement.{statement}
+use Rattle.register.proofs.words.half.Tie as tie
 
 beside : (a b c d : ℕ) → a < 256 → b < 256 → c < 256 → d < 256
     → bitOr (bitOr (bitOr a (b * 256 % 4294967296)) (c * 65536 % 4294967296)) (d * 16777216 % 4294967296)

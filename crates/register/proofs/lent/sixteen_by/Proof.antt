@@ -1,13 +1,13 @@
--- `linecode::crc::sixteen_by` meets its contract: each entry of the table is the register after its byte.
+-- `register::lent::sixteen_by` meets its contract: each entry of the table is the register after its byte.
 use mathlib.Core.Path.{refl, ap}
 use mathlib.Core.List.{[], _∷_}
 use native.Mathlib.Omega.{arith}
 use borrow.Author.Needs.{needs}
 use lib.Bits.{bitXor}
-use Rattle.linecode.proofs.Slicing.{after-sixteen}
-use Rattle.linecode.proofs.TableRule.{entryOf, entryOf-rule}
-use Rattle.linecode.proofs.crc.sixteen_by.Statement.{statement}
-use Rattle.linecode.proofs.crc.sixteen_by.Tie as tie
+use Rattle.register.proofs.Slicing.{after-sixteen}
+use Rattle.register.proofs.TableRule.{entryOf, entryOf-rule}
+use Rattle.register.proofs.lent.sixteen_by.Statement.{statement}
+use Rattle.register.proofs.lent.sixteen_by.Tie as tie
 
 half-requires : tie.Need-half-requires
 half-requires c κs = search needs

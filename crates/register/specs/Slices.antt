@@ -5,7 +5,11 @@ use lib.Bits.{bitXor}
 use Rattle.gf2.specs.Word.{zeros, digits, number}
 use Rattle.gf2.specs.Polynomial.{divide}
 use Rattle.gf2.specs.Generator.{generator}
-use Rattle.linecode.specs.Code.{upFrom}
+
+-- k numbers from n upward
+abbrev pub upFrom : ℕ → ℕ → List ℕ
+upFrom n zero = []
+upFrom n (suc k) = n ∷ upFrom (suc n) k
 
 -- the register's number eight steps after the number i
 abbrev pub eightSteps : ℕ → ℕ

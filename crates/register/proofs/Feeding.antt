@@ -1,5 +1,5 @@
 -- The loop over a line's 64 data bytes, sixteen at a step.
-use mathlib.Core.Path.{_≡_, refl, sym, ap, ap₂, _∙_, subst}
+use mathlib.Core.Path.{_≡_, refl, sym, ap, _∙_, subst}
 use mathlib.Core.List.{List, [], _∷_, _++_}
 use Prim.Native.Nat.{ℕ, zero, suc, _+_, _%_, _^_, _≤_, _<_}
 use native.Mathlib.Nat.{add-suc}
@@ -7,17 +7,8 @@ use native.Mathlib.Numerals.{add-one}
 use native.Mathlib.Omega.{arith}
 use lib.ListN.{length, take, drop, getD, drop-of-length-le}
 use lib.Seq.{drop-cons, getD-take, length-take-le}
-use Rattle.gf2.specs.Word.{Word, zeros, digits, number}
-use Rattle.gf2.specs.Check.{crc}
-use Rattle.gf2.specs.Generator.{generator}
-use Rattle.gf2.proofs.Digits.{digits-zero, number-small}
-use Rattle.gf2.proofs.Register.{feed, feed-append, feed-crc}
-use Rattle.linecode.specs.Places.{bitsOf, places}
-use Rattle.linecode.specs.Code.{dataOf}
-use Rattle.linecode.specs.Slices.{after}
-use Rattle.linecode.proofs.Bytes.{Bytes, bitsOf-append}
-use Rattle.linecode.proofs.Line.{dataOf-line}
-use Rattle.linecode.proofs.Slicing.{length-generator, after-lt, feed-after}
+use Rattle.register.specs.Slices.{after}
+use Rattle.register.proofs.Slicing.{after-lt, after-none, after-append}
 
 -- n bytes of a line from byte i + k on
 abbrev pub bytesFrom : List ℕ → ℕ → ℕ → ℕ → List ℕ
@@ -31,30 +22,20 @@ abbrev end : ℕ → ℕ → ℕ
 end k zero = k
 end k (suc n) = end (suc k) n
 
-end-is : (k n : ℕ) → end k n ≡ k + n
-end-is k zero = omega arith
-end-is k (suc n) = end-is (suc k) n ∙ omega arith
-
 -- bytes fed, and bytes left
 pub record Feeding (l : List ℕ) (r i : ℕ) : Type 0 where
   pub in-data : i ≤ 64
   pub whole-steps : i % 16 ≡ 0
   pub whole : length l ≡ 70
   pub small : r < 2 ^ 31
-  pub same : feed generator (zeros (length generator)) (bitsOf (take 64 l)) ≡ feed generator (digits 31 r) (bitsOf (drop i (take 64 l)))
+  pub same : after 0 (take 64 l) ≡ after r (drop i (take 64 l))
 
 pub room : (i : ℕ) → i < 64 → i % 16 ≡ 0 → i ≤ 48
 room i h e = omega arith
 
 pub feed-start : (l : List ℕ) → length l ≡ 70 → Feeding l 0 0
 feed-start l e =
-    record {
-      in-data = omega arith;
-      whole-steps = refl;
-      whole = e;
-      small = omega arith;
-      same = ap (λ (r : Word). feed generator r (bitsOf (take 64 l))) (ap zeros length-generator ∙ sym (digits-zero 31));
-    }
+    record { in-data = omega arith; whole-steps = refl; whole = e; small = omega arith; same = refl }
 
 drop-byte : (l : List ℕ) (i : ℕ) → length l ≡ 70 → i < 64 → drop i (take 64 l) ≡ getD l i 0 ∷ drop (suc i) (take 64 l)
 drop-byte l i e h =
@@ -77,30 +58,18 @@ feed-next l r i n h f e =
       whole-steps = omega (arith, f .whole-steps);
       whole = f .whole;
       small = after-lt r (sixteen l i) (f .small);
-      same =
-          f .same
-          ∙ ap (λ (p : List ℕ). feed generator (digits 31 r) (bitsOf p)) left
-          ∙ ap (feed generator (digits 31 r)) (bitsOf-append (sixteen l i) rest)
-          ∙ feed-append generator (digits 31 r) (bitsOf (sixteen l i)) (bitsOf rest)
-          ∙ ap (λ (w : Word). feed generator w (bitsOf rest)) (feed-after r (sixteen l i) (f .small));
+      same = f .same ∙ ap (after r) left ∙ after-append r (sixteen l i) (drop (i + 16) (take 64 l));
     })
   where
-    rest : List ℕ
-    rest = drop (i + 16) (take 64 l)
-
-    left : drop i (take 64 l) ≡ sixteen l i ++ rest
+    left : drop i (take 64 l) ≡ sixteen l i ++ drop (i + 16) (take 64 l)
     left =
         drop-byte l i (f .whole) h
         ∙ ap (λ (xs : List ℕ). getD l i 0 ∷ xs)
         (ap (λ (j : ℕ). drop j (take 64 l)) (sym (add-one i))
         ∙ drop-bytes l i 1 15 (f .whole) (omega (arith, room i h (f .whole-steps))))
 
-pub feed-end : (l : List ℕ) (r i : ℕ) → 64 ≤ i → Feeding l r i → r ≡ number (crc generator (dataOf (places l)))
+pub feed-end : (l : List ℕ) (r i : ℕ) → 64 ≤ i → Feeding l r i → r ≡ after 0 (take 64 l)
 feed-end l r i h f =
-    sym (number-small 31 r (f .small))
-    ∙ ap number
-    (sym (sym (feed-crc generator (dataOf (places l)) 30 length-generator)
-    ∙ ap (feed generator (zeros (length generator))) (dataOf-line l (f .whole))
-    ∙ f .same
-    ∙ ap (λ (p : List ℕ). feed generator (digits 31 r) (bitsOf p))
-    (drop-of-length-le (take 64 l) {i = i} (omega (arith, length-take-le 64 l (omega (arith, f .whole)))))))
+    sym (f .same
+    ∙ ap (after r) (drop-of-length-le (take 64 l) {i = i} (omega (arith, length-take-le 64 l (omega (arith, f .whole)))))
+    ∙ after-none r)
