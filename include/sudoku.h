@@ -16,7 +16,8 @@
  * - Writable buffers, `mark` and `passes` among them, overlap nothing else that is handed in. Buffers that are only read may
  *   overlap each other.
  *
- * Calls keep no state and allocate nothing, so threads may call at once, each on writable buffers of its own.
+ * Calls keep no state and allocate nothing, so threads may call at once, each on writable buffers of its own. Making tables and
+ * repair need some 100 kB of stack, whatever the size of the rectangle.
  *
  * Example: a caption is stored, two of its bits are hurt, and repair brings it back.
  *

@@ -5,7 +5,6 @@ pub mod Stores
 pub mod Loading
 pub mod Positions
 pub mod Syndrome
-pub mod CrcTable
 pub mod CrcRegister
 pub mod Codeword
 pub mod ReadAlone

@@ -2,3 +2,4 @@ pub mod Bytes
 pub mod Slicing
 pub mod TableRule
 pub mod Feeding
+pub mod Compiled
