@@ -4,6 +4,9 @@ pub mod Line
 pub mod Stores
 pub mod Loading
 pub mod Positions
+pub mod Linear
+pub mod WordBytes
+pub mod WordSums
 pub mod Syndrome
 pub mod CrcRegister
 pub mod Codeword

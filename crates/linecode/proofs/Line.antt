@@ -171,9 +171,6 @@ module _ (l : List ℕ) (whole : length l ≡ 70) where
       take-at (take protectedPlaces (bitsOf l)) (take hammingPlaces (drop (suc protectedPlaces) (bitsOf l))) protectedPlaces
       (length-take-le protectedPlaces (bitsOf l) (omega (arith, protected-is, length-bitsOf l)))
 
-  pub length-protected : length (protected (places l)) ≡ protectedPlaces
-  length-protected = ap length protected-line ∙ protected-length
-
   pub protected-bit : (i : ℕ) → i < 543 → getD (protected (places l)) i false ≡ bit (i % 8) (getD l (i / 8) 0)
   protected-bit i h =
       ap (λ (w : Word). getD w i false) protected-bits

@@ -76,33 +76,6 @@ hamming-digits p =
     one : (n : ℕ) → n / 1 ≡ n
     one n = omega arith
 
--- ---- a turn of the loop that sums the positions of the set places
-module _ (cs : List ℕ) (w : Word) (i s : ℕ) (in-cs : i < length cs) (in-w : i < length w) where
-  both : columnSum (drop i cs) (drop i w) ≡ columnSum (getD cs i 0 ∷ drop (suc i) cs) (getD w i false ∷ drop (suc i) w)
-  both = ap₂ columnSum (drop-cons cs i 0 in-cs) (drop-cons w i false in-w)
-
-  pub sum-set : (ps : List ℕ) (all t : ℕ) → ps ≡ cs → all ≡ bitXor s (columnSum (drop i cs) (drop i w)) → getD w i false ≡ true
-      → t ≡ bitXor s (getD ps i 0) → all ≡ bitXor t (columnSum (drop (i + 1) cs) (drop (i + 1) w))
-  sum-set ps all t p q e f =
-      q
-      ∙ ap (bitXor s) (both ∙ ap (λ (b : Bool). columnSum (getD cs i 0 ∷ drop (suc i) cs) (b ∷ drop (suc i) w)) e)
-      ∙ sym (bitXor-assoc s (getD cs i 0) (columnSum (drop (suc i) cs) (drop (suc i) w)))
-      ∙ ap₂ (λ (a j : ℕ). bitXor a (columnSum (drop j cs) (drop j w)))
-      (ap (λ (l : List ℕ). bitXor s (getD l i 0)) (sym p) ∙ sym f)
-      (sym (add-one i))
-
-  pub sum-clear : (all t : ℕ) → all ≡ bitXor s (columnSum (drop i cs) (drop i w)) → getD w i false ≡ false
-      → t ≡ s → all ≡ bitXor t (columnSum (drop (i + 1) cs) (drop (i + 1) w))
-  sum-clear all t q e f =
-      q
-      ∙ ap (bitXor s) (both ∙ ap (λ (b : Bool). columnSum (getD cs i 0 ∷ drop (suc i) cs) (b ∷ drop (suc i) w)) e)
-      ∙ ap₂ (λ (a j : ℕ). bitXor a (columnSum (drop j cs) (drop j w))) (sym f) (sym (add-one i))
-
--- the loop's end: nothing is left
-pub sum-all : (cs : List ℕ) (w : Word) (i s all : ℕ) → length cs ≤ i → all ≡ bitXor s (columnSum (drop i cs) (drop i w)) → s ≡ all
-sum-all cs w i s all h q =
-    sym (q ∙ ap (λ (l : List ℕ). bitXor s (columnSum l (drop i w))) (drop-of-length-le cs h) ∙ xor-zero-r s)
-
 pub withHamming-digits : (p : Word) → withHamming p ≡ p ++ digits 10 (columnSum positions p)
 unfolding withHamming
 withHamming-digits p = ap (λ (h : Word). p ++ h) (hamming-digits p)

@@ -3,6 +3,7 @@ pub mod alone;
 pub mod crc;
 pub mod hamming;
 pub mod place;
+mod words;
 
 ghost use mathlib.Core.Path.{_≡_};
 ghost use Rattle.linecode.specs.Entry.{writeAnswer, readAnswer};

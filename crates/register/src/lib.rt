@@ -2,4 +2,4 @@
 pub mod lent;
 pub mod single;
 pub mod slices;
-mod words;
+pub mod words;

@@ -1,93 +1,109 @@
--- `linecode::hamming::position_sum` meets its contract. What is summed and what is left make up the whole sum.
-use mathlib.Core.Path.{_≡_, refl, sym, ap, ap₂, _∙_, subst}
-use mathlib.Core.Logic.{⊎-elim}
-use Prim.Native.Nat.{ℕ, suc, _-_, _/_, _%_, _≤_, _<_}
-use native.Mathlib.Numerals.{add-one}
+-- `linecode::hamming::position_sum` meets its contract: the words hold the bits of bytes 0 to 67.
 use native.Mathlib.Omega.{arith}
 use borrow.Author.Needs.{needs}
-use borrow.Author.Tests.{eq-eqb, ne-eqb}
-use lib.Bits.{bitXor, xor-zero-r}
-use lib.ListN.{length, drop, drop-of-length-le}
+use mathlib.Core.Path.{_≡_, ap, _∙_}
+use Rattle.linecode.specs.Code.{positions}
+use Prim.Native.Nat.{ℕ, _<_}
+use Rattle.gf2.specs.Word.{Word}
 use Rattle.gf2.specs.Check.{columnSum}
-use Rattle.linecode.specs.Places.{places}
-use Rattle.linecode.specs.Code.{protected, positions as rule}
 use Rattle.linecode.proofs.Bytes.{array-length}
-use Rattle.linecode.proofs.Line.{protected-is, protected-bit, length-protected}
-use Rattle.linecode.proofs.Positions.{length-positions, sum-set, sum-clear, sum-all}
+use Rattle.linecode.proofs.Positions.{length-positions, position-sum-lt}
+use Rattle.linecode.proofs.WordBytes.{last-half, word-before, protected-sum}
 use Rattle.linecode.proofs.hamming.position_sum.Statement.{statement}
 use Rattle.linecode.proofs.hamming.position_sum.Tie as tie
 
-abbrev Inv-loop : tie.InvT-loop
-Inv-loop line positions sum₀ i₀ sum i =
-    (i ≤ 543)
-    × (length line ≡ 70)
-    × (positions ≡ rule)
-    × (columnSum rule (protected (places line)) ≡ bitXor sum (columnSum (drop i rule) (drop i (protected (places line)))))
+word-at-requires : tie.Need-word-at-requires
+word-at-requires c κs = search needs
 
-abbrev μ-loop : tie.MeasureT-loop
-μ-loop line positions sum₀ i₀ sum i = 543 - i
+word-at-requires-2 : tie.Need-word-at-requires-2
+word-at-requires-2 c κs = search needs
 
-loop-holds : tie.Need-loop-holds Inv-loop μ-loop
-unfolding rule
-loop-holds c = (omega arith, array-length 70 (c .args .t1) _ (c .good .0), refl, refl)
+word-at-requires-3 : tie.Need-word-at-requires-3
+word-at-requires-3 c κs = search needs
 
-array-read-if1 : tie.Need-array-read-if1 Inv-loop μ-loop
-array-read-if1 c = omega arith
+word-at-requires-4 : tie.Need-word-at-requires-4
+word-at-requires-4 c κs = search needs
 
-cast-if1 : tie.Need-cast-if1 Inv-loop μ-loop
-cast-if1 c = omega arith
+word-at-requires-5 : tie.Need-word-at-requires-5
+word-at-requires-5 c κs = search needs
 
-shr-if1 : tie.Need-shr-if1 Inv-loop μ-loop
-shr-if1 c = omega arith
+word-at-requires-6 : tie.Need-word-at-requires-6
+word-at-requires-6 c κs = search needs
 
-mul-sum : tie.Need-mul-sum Inv-loop μ-loop
-mul-sum c = omega arith
+word-at-requires-7 : tie.Need-word-at-requires-7
+word-at-requires-7 c κs = search needs
 
-array-read-sum : tie.Need-array-read-sum Inv-loop μ-loop
-array-read-sum c = omega arith
+word-at-requires-8 : tie.Need-word-at-requires-8
+word-at-requires-8 c κs = search needs
 
-add-i : tie.Need-add-i Inv-loop μ-loop
-add-i c = omega arith
+array-read-half : tie.Need-array-read-half
+array-read-half c = search needs
 
-loop-less : tie.Need-loop-less Inv-loop μ-loop
-loop-less c = omega arith
+array-read-half-2 : tie.Need-array-read-half-2
+array-read-half-2 c = search needs
 
-loop-again : tie.Need-loop-again Inv-loop μ-loop
-loop-again c =
-    let here = c .before .before .loop in
-    let l = c .before .before .before .args .t1 in
-    let w = protected (places l) in
-    let in-rule : here .i < length rule = omega (arith, length-positions) in
-    let in-w : here .i < length w = omega (arith, length-protected l (here .inv .1), protected-is) in
-    let place = protected-bit l (here .inv .1) (here .i) (omega arith) in (
-      omega arith,
-      here .inv .1,
-      here .inv .2,
-      ⊎-elim
-          (λ t. sum-set rule w (here .i) (here .sum) in-rule in-w _ _ _ (here .inv .2) (here .inv .3) (place ∙ eq-eqb _ 1 (t .0 .taken)) (t .1))
-          (λ t. sum-clear rule w (here .i) (here .sum) in-rule in-w _ _ (here .inv .3) (place ∙ ne-eqb _ 1 (t .0 .left)) (t .1))
-          (c .if1 .came),
-    )
+array-read-half-3 : tie.Need-array-read-half-3
+array-read-half-3 c = search needs
 
-returns : tie.Need-returns Inv-loop μ-loop
+array-read-half-4 : tie.Need-array-read-half-4
+array-read-half-4 c = search needs
+
+half-requires : tie.Need-half-requires
+half-requires c κs = search needs
+
+hamming-bits-requires : tie.Need-hamming-bits-requires
+hamming-bits-requires c κs = search needs
+
+-- ten bits fit the result
+sum-lt : (r : ℕ) (w : Word) → r ≡ columnSum positions w → r < 1024
+sum-lt r w e = let h = position-sum-lt w in omega arith
+
+cast-result : tie.Need-cast-result
+cast-result c = omega (arith, sum-lt _ _ (c .hamming-bits .ensures))
+
+returns : tie.Need-returns
 returns c =
-    let here = c .before .loop in
-    sum-all rule (protected (places (c .before .before .args .t1))) (here .i) (here .sum) _
-    (omega (arith, length-positions)) (here .inv .3)
+    let at-half = c .before in
+    let at-7 = at-half .before in
+    let at-6 = at-7 .before in
+    let at-5 = at-6 .before in
+    let at-4 = at-5 .before in
+    let at-3 = at-4 .before in
+    let at-2 = at-3 .before in
+    let at-1 = at-2 .before in
+    let at-0 = at-1 .before in
+    let l = at-0 .before .args .t1 in
+    let whole = array-length 70 l _ (at-0 .before .good .0) in
+    c .hamming-bits .ensures
+    ∙ ap (columnSum positions)
+    (word-before l whole 0 60 (at-0 .word-at .result) _ (omega arith) (at-0 .word-at .ensures)
+    (word-before l whole 8 52 (at-1 .word-at2 .result) _ (omega arith) (at-1 .word-at2 .ensures)
+    (word-before l whole 16 44 (at-2 .word-at3 .result) _ (omega arith) (at-2 .word-at3 .ensures)
+    (word-before l whole 24 36 (at-3 .word-at4 .result) _ (omega arith) (at-3 .word-at4 .ensures)
+    (word-before l whole 32 28 (at-4 .word-at5 .result) _ (omega arith) (at-4 .word-at5 .ensures)
+    (word-before l whole 40 20 (at-5 .word-at6 .result) _ (omega arith) (at-5 .word-at6 .ensures)
+    (word-before l whole 48 12 (at-6 .word-at7 .result) _ (omega arith) (at-6 .word-at7 .ensures)
+    (word-before l whole 56 4 (at-7 .word-at8 .result) _ (omega arith) (at-7 .word-at8 .ensures)
+    (last-half l whole (at-half .half .result) (at-half .half .ensures))))))))))
+    ∙ protected-sum l whole positions length-positions
 
 pub position-sum-spec : {M : Type 1} → statement M
 position-sum-spec =
     tie.close
     (tie.spec
-    Inv-loop
-    μ-loop
-    loop-holds
-    array-read-if1
-    cast-if1
-    shr-if1
-    mul-sum
-    array-read-sum
-    add-i
-    loop-less
-    loop-again
+    word-at-requires
+    word-at-requires-2
+    word-at-requires-3
+    word-at-requires-4
+    word-at-requires-5
+    word-at-requires-6
+    word-at-requires-7
+    word-at-requires-8
+    array-read-half
+    array-read-half-2
+    array-read-half-3
+    array-read-half-4
+    half-requires
+    hamming-bits-requires
+    cast-result
     returns)

@@ -231,10 +231,10 @@ loop-again c =
     let b = here .inv .1 in
     let h = c .before .before .before .before .before .before .before .before .before .before .before .before .before .before .before .before .half in
     let stepped =
-        ap₂ bitXor (ap₂ bitXor (ap₂ bitXor (ap₂ bitXor (ap₂ bitXor (ap₂ bitXor (ap₂ bitXor (ap₂ bitXor (ap₂ bitXor (ap₂ bitXor (ap₂ bitXor (ap₂ bitXor (ap₂ bitXor (ap₂ bitXor (ap₂ bitXor (c .before .before .before .before .before .before .before .before .before .before .before .before .before .before .before .slice-0 .ensures) (c .before .before .before .before .before .before .before .before .before .before .before .before .before .before .slice-1 .ensures)) (c .before .before .before .before .before .before .before .before .before .before .before .before .before .slice-2 .ensures)) (c .before .before .before .before .before .before .before .before .before .before .before .before .slice-3 .ensures)) (c .before .before .before .before .before .before .before .before .before .before .before .slice-4 .ensures)) (c .before .before .before .before .before .before .before .before .before .before .slice-5 .ensures)) (c .before .before .before .before .before .before .before .before .before .slice-6 .ensures)) (c .before .before .before .before .before .before .before .before .slice-7 .ensures)) (c .before .before .before .before .before .before .before .slice-8 .ensures)) (c .before .before .before .before .before .before .slice-9 .ensures)) (c .before .before .before .before .before .slice-10 .ensures)) (c .before .before .before .before .slice-11 .ensures)) (c .before .before .before .slice-12 .ensures)) (c .before .before .slice-13 .ensures)) (c .before .slice-14 .ensures)) (c .slice-15 .ensures)
-        ∙ after-sixteen looked looked-rule r (bitXor r (h .result)) (getD l i 0) (getD l (i + 1) 0) (getD l (i + 2) 0) (getD l (i + 3) 0)
-        (getD l (i + 4) 0 ∷ getD l (i + 5) 0 ∷ getD l (i + 6) 0 ∷ getD l (i + 7) 0 ∷ getD l (i + 8) 0 ∷ getD l (i + 9) 0 ∷ getD l (i + 10) 0 ∷ getD l (i + 11) 0 ∷ getD l (i + 12) 0 ∷ getD l (i + 13) 0 ∷ getD l (i + 14) 0 ∷ getD l (i + 15) 0 ∷ []) (here .inv .0 .small) (ap (bitXor r) (h .ensures)) refl
-        (byte-at l i b, (byte-at l (i + 1) b, (byte-at l (i + 2) b, (byte-at l (i + 3) b, (byte-at l (i + 4) b, (byte-at l (i + 5) b, (byte-at l (i + 6) b, (byte-at l (i + 7) b, (byte-at l (i + 8) b, (byte-at l (i + 9) b, (byte-at l (i + 10) b, (byte-at l (i + 11) b, (byte-at l (i + 12) b, (byte-at l (i + 13) b, (byte-at l (i + 14) b, (byte-at l (i + 15) b, tt))))))))))))))))
+    ap₂ bitXor (ap₂ bitXor (ap₂ bitXor (ap₂ bitXor (ap₂ bitXor (ap₂ bitXor (ap₂ bitXor (ap₂ bitXor (ap₂ bitXor (ap₂ bitXor (ap₂ bitXor (ap₂ bitXor (ap₂ bitXor (ap₂ bitXor (ap₂ bitXor (c .before .before .before .before .before .before .before .before .before .before .before .before .before .before .before .slice-0 .ensures) (c .before .before .before .before .before .before .before .before .before .before .before .before .before .before .slice-1 .ensures)) (c .before .before .before .before .before .before .before .before .before .before .before .before .before .slice-2 .ensures)) (c .before .before .before .before .before .before .before .before .before .before .before .before .slice-3 .ensures)) (c .before .before .before .before .before .before .before .before .before .before .before .slice-4 .ensures)) (c .before .before .before .before .before .before .before .before .before .before .slice-5 .ensures)) (c .before .before .before .before .before .before .before .before .before .slice-6 .ensures)) (c .before .before .before .before .before .before .before .before .slice-7 .ensures)) (c .before .before .before .before .before .before .before .slice-8 .ensures)) (c .before .before .before .before .before .before .slice-9 .ensures)) (c .before .before .before .before .before .slice-10 .ensures)) (c .before .before .before .before .slice-11 .ensures)) (c .before .before .before .slice-12 .ensures)) (c .before .before .slice-13 .ensures)) (c .before .slice-14 .ensures)) (c .slice-15 .ensures)
+    ∙ after-sixteen looked looked-rule r (bitXor r (h .result)) (getD l i 0) (getD l (i + 1) 0) (getD l (i + 2) 0) (getD l (i + 3) 0)
+    (getD l (i + 4) 0 ∷ getD l (i + 5) 0 ∷ getD l (i + 6) 0 ∷ getD l (i + 7) 0 ∷ getD l (i + 8) 0 ∷ getD l (i + 9) 0 ∷ getD l (i + 10) 0 ∷ getD l (i + 11) 0 ∷ getD l (i + 12) 0 ∷ getD l (i + 13) 0 ∷ getD l (i + 14) 0 ∷ getD l (i + 15) 0 ∷ []) (here .inv .0 .small) (ap (bitXor r) (h .ensures)) refl
+    (byte-at l i b, (byte-at l (i + 1) b, (byte-at l (i + 2) b, (byte-at l (i + 3) b, (byte-at l (i + 4) b, (byte-at l (i + 5) b, (byte-at l (i + 6) b, (byte-at l (i + 7) b, (byte-at l (i + 8) b, (byte-at l (i + 9) b, (byte-at l (i + 10) b, (byte-at l (i + 11) b, (byte-at l (i + 12) b, (byte-at l (i + 13) b, (byte-at l (i + 14) b, (byte-at l (i + 15) b, tt))))))))))))))))
     in
     (feed-next l r i _ (turn .loop-test .taken) (here .inv .0) stepped, b)
 
