@@ -1,12 +1,11 @@
 -- The first reading, line after line, into the line buffer and the mark buffer.
 use mathlib.Core.Path.{_≡_, refl, sym, ap, ap₂, _∙_, subst}
 use mathlib.Core.List.{List, [], _∷_, _++_, map, append-nil}
-use Prim.Native.Nat.{ℕ, zero, suc, _+_, _-_, _*_, _≤_, _<_}
-use native.Mathlib.Nat.{suc-add, zero-add}
-use native.Mathlib.Numerals.{add-one}
+use Prim.Native.Nat.{ℕ, zero, suc, _+_, _*_, _<_}
+use native.Mathlib.Nat.{zero-add}
 use native.Mathlib.Omega.{arith}
-use lib.ListN.{length, drop, getD, set, length-append, length-drop, length-map, length-set, drop-of-length-le}
-use lib.Seq.{drop-cons, set-at, append-snoc}
+use lib.ListN.{length, drop, getD, set, length-map, drop-of-length-le}
+use lib.Seq.{drop-cons, drop-at, set-at, append-snoc}
 use Rattle.gf2.specs.Word.{Word}
 use Rattle.linecode.specs.Places.{linePlaces, lineBytes, places, lineOf}
 use Rattle.linecode.specs.Code.{upFrom}
@@ -14,21 +13,18 @@ use Rattle.linecode.specs.Reading.{readAlone}
 use Rattle.linecode.specs.Entry.{reading}
 use Rattle.linecode.specs.declared.alone.Reading.{Reading}
 use Rattle.linecode.proofs.Line.{bytes-is}
-use Rattle.scheme.specs.Layer.{Cell, readLine}
+use Rattle.scheme.specs.Layer.{readLine}
 use Rattle.scheme.specs.Visit.{State, lineAt}
 use Rattle.scheme.specs.Repair.{readAll, linesOf, marksOf}
 use Rattle.scheme.proofs.Width.{Wide, wide-at}
 use Rattle.rectangle.specs.Store.{lineLayer, readUnder, bytesAt, placesAt, linesIn, bufferOf, putBytes, putLine, aloneAt}
 use Rattle.rectangle.proofs.Kept.{kept}
+use Rattle.rectangle.proofs.Buffer.{length-bufferOf}
 use Rattle.rectangle.proofs.Loops.{put-next, reading-wide}
 use Rattle.rectangle.proofs.Members.{length-upFrom}
-use Rattle.repair.specs.Lent.{Holding}
+use Rattle.repair.specs.Lent.{Holding, Begun, readFirst}
 
--- the first n lines as each reads alone
-unfoldable pub readFirst : List ℕ → ℕ → State
-readFirst found n = map (aloneAt found) (upFrom 0 n)
-
-length-readFirst : (found : List ℕ) (n : ℕ) → length (readFirst found n) ≡ n
+pub length-readFirst : (found : List ℕ) (n : ℕ) → length (readFirst found n) ≡ n
 unfolding readFirst
 length-readFirst found n = length-map (upFrom 0 n) (aloneAt found) ∙ length-upFrom 0 n
 
@@ -47,7 +43,7 @@ map-snoc : {A B : Type 0} (f : A → B) (l : List A) (a : A) → map f (l ++ (a 
 map-snoc f [] a = refl
 map-snoc {A} {B} f (b ∷ l) a = ap (λ (k : List B). f b ∷ k) (map-snoc f l a)
 
-one-more : (found : List ℕ) (n : ℕ) → readFirst found (suc n) ≡ readFirst found n ++ (aloneAt found n ∷ [])
+pub one-more : (found : List ℕ) (n : ℕ) → readFirst found (suc n) ≡ readFirst found n ++ (aloneAt found n ∷ [])
 unfolding readFirst
 one-more found n =
     ap (map (aloneAt found)) (upFrom-snoc 0 n ∙ ap (λ (k : ℕ). upFrom 0 n ++ (k ∷ [])) (zero-add n))
@@ -58,35 +54,18 @@ unfolding aloneAt
 read-from found i zero = refl
 read-from found i (suc n) = ap (λ (s : State). readLine lineLayer i (placesAt found i) ∷ s) (read-from found (suc i) n)
 
-all-read : (found : List ℕ) (k : ℕ) → readAll (readLine lineLayer) 0 (linesIn k found) ≡ readFirst found k
+pub all-read : (found : List ℕ) (k : ℕ) → readAll (readLine lineLayer) 0 (linesIn k found) ≡ readFirst found k
 unfolding linesIn readFirst
 all-read found k = read-from found 0 k
 
--- ---- the loop: n lines are read
-pub record ReadSoFar (found out₀ marks₀ : List ℕ) (count : ℕ) (out marks : List ℕ) (n : ℕ) : Type 0 where
-  pub few : n ≤ count
-  pub foundBytes : length found ≡ count * 70
-  pub outBytes : length out₀ ≡ count * 70
-  pub markBytes : length marks₀ ≡ count
-  pub same-out : length out ≡ length out₀
-  pub same-marks : length marks ≡ length marks₀
-  pub lines : out ≡ bufferOf (linesOf (readFirst found n)) ++ drop (n * 70) out₀
-  pub marked : marks ≡ marksOf (readFirst found n) ++ drop n marks₀
-
-pub reading-start : (found out marks : List ℕ) (count : ℕ)
-    → (length found ≡ count * 70) × (length out ≡ count * 70) × (length marks ≡ count) → ReadSoFar found out marks count out marks 0
+-- ---- the first lines of the buffers are those read so far
+pub begun-start : (found out marks : List ℕ) → Begun out marks (readFirst found 0)
 unfolding readFirst
-reading-start found out marks count p =
-    record {
-      few = omega arith;
-      foundBytes = p .0;
-      outBytes = p .1;
-      markBytes = p .2;
-      same-out = refl;
-      same-marks = refl;
-      lines = refl;
-      marked = refl;
-    }
+begun-start found out marks = record { lines = refl; marked = refl }
+
+-- a list by its beginning and the rest of itself
+again : (front rest whole : List ℕ) (m : ℕ) → whole ≡ front ++ rest → length front ≡ m → whole ≡ front ++ drop m whole
+again front rest whole m e l = e ∙ ap (λ (x : List ℕ). front ++ x) (sym (ap (drop m) e ∙ drop-at front rest m l))
 
 -- a mark stored behind others
 mark-next : (ms old : List ℕ) (n m : ℕ) → length ms ≡ n → n < length old
@@ -96,65 +75,71 @@ mark-next ms old n m e h =
     ∙ set-at ms (getD old n 0) (drop (suc n) old) m n e
     ∙ sym (append-snoc ms m (drop (suc n) old))
 
-pub reading-next : (found out₀ marks₀ : List ℕ) (count : ℕ) (out marks : List ℕ) (n : ℕ) (line after : List ℕ) (r : Reading)
-    → ReadSoFar found out₀ marks₀ count out marks n → n < count → line ≡ bytesAt found n → r ≡ reading line
-    → after ≡ putBytes out n (r .line) → length after ≡ length out
-    → ReadSoFar found out₀ marks₀ count after (set marks n (r .mark)) (n + 1)
-unfolding reading putLine aloneAt readUnder placesAt
-reading-next found out₀ marks₀ count out marks n line after r p h e q a k =
+-- line n as it was read alone
+pub alone-is : (found line : List ℕ) (n : ℕ) (r : Reading) → line ≡ bytesAt found n → r ≡ reading line
+    → r ≡ record { line = lineOf (aloneAt found n .line); mark = aloneAt found n .mark }
+unfolding reading aloneAt readUnder placesAt
+alone-is found line n r e q =
+    q ∙ ap (λ (l : List ℕ). record { line = lineOf (readAlone (places l) .word); mark = readAlone (places l) .mark }) e
+
+pub begun-next : (found out marks : List ℕ) (n : ℕ) (after : List ℕ) (r : Reading) → Begun out marks (readFirst found n) → n < length marks
+    → r ≡ record { line = lineOf (aloneAt found n .line); mark = aloneAt found n .mark } → after ≡ putBytes out n (r .line)
+    → Begun after (set marks n (r .mark)) (readFirst found (suc n))
+unfolding putLine
+begun-next found out marks n after r p h alone a =
     record {
-      few = omega arith;
-      foundBytes = p .foundBytes;
-      outBytes = p .outBytes;
-      markBytes = p .markBytes;
-      same-out = k ∙ p .same-out;
-      same-marks = length-set marks n (r .mark) ∙ p .same-marks;
       lines =
-          a
+          again (bufferOf (linesOf (readFirst found (suc n)))) _ after _
+          (a
           ∙ ap₂ (λ (b : List ℕ) (x : List ℕ). putBytes b n x) (p .lines) (ap (λ (y : Reading). y .line) alone)
-          ∙ ap₂ (λ (i j : ℕ). putBytes (bufferOf ws ++ drop (j * i) out₀) j (lineOf (aloneAt found n .line))) (sym bytes-is) (sym size)
-          ∙ put-next ws out₀ (aloneAt found n .line)
-          ∙ ap₂ (λ (l : List Word) (i : ℕ). bufferOf l ++ drop i out₀)
-          (sym (map-snoc (λ c. c .line) (readFirst found n) (aloneAt found n)) ∙ ap linesOf (sym (one-more found n)))
-          (ap₂ (λ (i j : ℕ). suc i * j) size bytes-is)
-          ∙ ap (λ (i : ℕ). bufferOf (linesOf (readFirst found i)) ++ drop (i * 70) out₀) (sym (add-one n));
+          ∙ ap₂ (λ (i j : ℕ). putBytes (bufferOf ws ++ drop (j * i) out) n (lineOf w)) (sym bytes-is) (length-readFirst found n ∙ sym size)
+          ∙ ap (λ (j : ℕ). putBytes (bufferOf ws ++ drop (length ws * lineBytes) out) j (lineOf w)) (sym size)
+          ∙ put-next ws out w
+          ∙ ap (λ (l : List Word). bufferOf l ++ drop (suc (length ws) * lineBytes) out)
+          (sym (map-snoc (λ c. c .line) (readFirst found n) (aloneAt found n)) ∙ ap linesOf (sym (one-more found n))))
+          (length-bufferOf (linesOf (readFirst found (suc n)))
+          ∙ ap₂ (λ (i j : ℕ). i * j) (length-map (readFirst found (suc n)) (λ c. c .line)) bytes-is);
       marked =
-          ap₂ (λ (l : List ℕ) (m : ℕ). set l n m) (p .marked) (ap (λ (y : Reading). y .mark) alone)
-          ∙ mark-next (marksOf (readFirst found n)) marks₀ n (aloneAt found n .mark)
-          (length-map (readFirst found n) (λ c. c .mark) ∙ length-readFirst found n) (omega (arith, p .markBytes))
-          ∙ ap (λ (l : List ℕ). l ++ drop (suc n) marks₀)
-          (sym (map-snoc (λ c. c .mark) (readFirst found n) (aloneAt found n)) ∙ ap marksOf (sym (one-more found n)))
-          ∙ ap (λ (i : ℕ). marksOf (readFirst found i) ++ drop i marks₀) (sym (add-one n));
+          again (marksOf (readFirst found (suc n))) (drop (suc n) marks) (set marks n (r .mark)) _
+          (ap₂ (λ (l : List ℕ) (m : ℕ). set l n m)
+          (p .marked ∙ ap (λ (i : ℕ). marksOf (readFirst found n) ++ drop i marks) (length-readFirst found n)) (ap (λ (y : Reading). y .mark) alone)
+          ∙ mark-next (marksOf (readFirst found n)) marks n (aloneAt found n .mark)
+          (length-map (readFirst found n) (λ c. c .mark) ∙ length-readFirst found n) h
+          ∙ ap (λ (l : List ℕ). l ++ drop (suc n) marks)
+          (sym (map-snoc (λ c. c .mark) (readFirst found n) (aloneAt found n)) ∙ ap marksOf (sym (one-more found n))))
+          (length-map (readFirst found (suc n)) (λ c. c .mark));
     }
   where
     ws : List Word
     ws = linesOf (readFirst found n)
 
+    w : Word
+    w = aloneAt found n .line
+
     size : length ws ≡ n
     size = length-map (readFirst found n) (λ c. c .line) ∙ length-readFirst found n
 
-    alone : r ≡ record { line = lineOf (aloneAt found n .line); mark = aloneAt found n .mark }
-    alone = q ∙ ap (λ (l : List ℕ). record { line = lineOf (readAlone (places l) .word); mark = readAlone (places l) .mark }) e
-
-pub reading-end : (found out₀ marks₀ : List ℕ) (count : ℕ) (out marks : List ℕ) (n : ℕ)
-    → ReadSoFar found out₀ marks₀ count out marks n → count ≤ n → Holding out marks (readAll (readLine lineLayer) 0 (linesIn count found))
-reading-end found out₀ marks₀ count out marks n p h =
-    record {
-      wide = λ i j. wide-at linePlaces (readAll (readLine lineLayer) 0 (linesIn count found)) i wide j;
+-- all lines are read
+pub begun-end : (found out marks : List ℕ) (count : ℕ) → length found ≡ count * 70 → length out ≡ count * 70 → length marks ≡ count
+    → Begun out marks (readFirst found count) → Holding out marks (readAll (readLine lineLayer) 0 (linesIn count found))
+begun-end found out marks count foundBytes outBytes markBytes p =
+    subst (Holding out marks) (sym (all-read found count))
+    (record {
+      wide = λ i j.
+          subst (λ (s : State). length (lineAt s i) ≡ linePlaces) (all-read found count)
+          (wide-at linePlaces (readAll (readLine lineLayer) 0 (linesIn count found)) i wide
+          (subst (λ (s : State). i < length s) (sym (all-read found count)) j));
       lines =
           p .lines
-          ∙ ap (λ (l : List ℕ). bufferOf (linesOf (readFirst found n)) ++ l) (drop-of-length-le out₀ {i = n * 70} (omega (arith, p .outBytes)))
-          ∙ append-nil (bufferOf (linesOf (readFirst found n)))
-          ∙ ap (λ (s : State). bufferOf (linesOf s)) (ap (readFirst found) last ∙ sym (all-read found count));
+          ∙ ap (λ (l : List ℕ). bufferOf (linesOf (readFirst found count)) ++ l)
+          (drop-of-length-le out {i = length (readFirst found count) * 70} (omega (arith, length-readFirst found count)))
+          ∙ append-nil (bufferOf (linesOf (readFirst found count)));
       marked =
           p .marked
-          ∙ ap (λ (l : List ℕ). marksOf (readFirst found n) ++ l) (drop-of-length-le marks₀ {i = n} (omega (arith, p .markBytes)))
-          ∙ append-nil (marksOf (readFirst found n))
-          ∙ ap marksOf (ap (readFirst found) last ∙ sym (all-read found count));
-    }
+          ∙ ap (λ (l : List ℕ). marksOf (readFirst found count) ++ l)
+          (drop-of-length-le marks {i = length (readFirst found count)} (omega (arith, length-readFirst found count)))
+          ∙ append-nil (marksOf (readFirst found count));
+    })
   where
-    last : n ≡ count
-    last = omega (arith, p .few)
-
     wide : Wide linePlaces (readAll (readLine lineLayer) 0 (linesIn count found))
-    wide = reading-wide kept count found (p .foundBytes ∙ ap (λ (i : ℕ). count * i) (sym bytes-is))
+    wide = reading-wide kept count found (foundBytes ∙ ap (λ (i : ℕ). count * i) (sym bytes-is))

@@ -1,23 +1,21 @@
 -- Buffers that hold a store: what stands in them, and what writing one line with its mark leaves.
-use mathlib.Core.Path.{_≡_, refl, sym, ap, ap₂, _∙_, subst, fun-ext}
-use mathlib.Core.Bool.{Bool, true, false}
-use mathlib.Core.List.{List, [], _∷_, _++_, map}
-use Prim.Native.Nat.{ℕ, zero, suc, _+_, _*_, _≤_, _<_}
-use native.Mathlib.Nat.{not-suc-le-zero, le-of-suc-le-suc}
+use mathlib.Core.Path.{_≡_, refl, sym, ap, _∙_, fun-ext}
+use mathlib.Core.Bool.{Bool}
+use mathlib.Core.List.{List, [], _∷_, map}
+use Prim.Native.Nat.{ℕ, zero, suc, _<_}
 use native.Mathlib.Decide.{ℕ-discrete}
 use native.Mathlib.Omega.{arith}
 use lib.Dec.{eqb}
 use lib.ListN.{length, getD, set, length-map, length-set, List·getD-map}
 use lib.Seq.{getD-set-same, getD-set-other}
 use Rattle.gf2.specs.Word.{Word}
-use Rattle.linecode.specs.Places.{linePlaces, lineBytes, places, lineOf}
+use Rattle.linecode.specs.Places.{linePlaces, lineOf}
 use Rattle.scheme.specs.Layer.{Cell}
-use Rattle.scheme.specs.Visit.{State, cellAt, lineAt, isFaulty, select, faultyOf, sum}
-use Rattle.scheme.specs.Repair.{linesOf, marksOf}
-use Rattle.scheme.specs.Demand3.{_∈_, wordAt}
-use Rattle.scheme.proofs.Sums.{sum-ext}
-use Rattle.rectangle.specs.Store.{bytesAt, placesAt, bufferOf, putBytes, putLine}
-use Rattle.rectangle.proofs.Buffer.{Sized, bytesAt-bufferOf, placesAt-bufferOf, putLine-bufferOf}
+use Rattle.scheme.specs.Visit.{State, cellAt, lineAt, select, faultyOf}
+use Rattle.scheme.specs.Repair.{linesOf}
+use Rattle.scheme.specs.Demand3.{wordAt}
+use Rattle.rectangle.specs.Store.{bytesAt, bufferOf, putBytes, putLine}
+use Rattle.rectangle.proofs.Buffer.{bytesAt-bufferOf, putLine-bufferOf}
 use Rattle.repair.specs.Lent.{Holding, faultyAmong}
 
 line-of : (s : State) (n : ℕ) → wordAt (linesOf s) n ≡ lineAt s n
@@ -43,23 +41,11 @@ module _ (out marks : List ℕ) (s : State) (h : Holding out marks s) where
   lines-length : length (linesOf s) ≡ length s
   lines-length = length-map s (λ c. c .line)
 
-  sized : Sized (linesOf s)
-  sized n i = ap length (line-of s n) ∙ h .wide n (omega (arith, lines-length))
-
   pub held-bytes : (n : ℕ) → n < length s → bytesAt out n ≡ lineOf (lineAt s n)
   held-bytes n i =
       ap (λ (b : List ℕ). bytesAt b n) (h .lines)
       ∙ bytesAt-bufferOf (linesOf s) n (omega (arith, lines-length))
       ∙ ap lineOf (line-of s n)
-
-  pub held-line : (n : ℕ) → n < length s → placesAt out n ≡ lineAt s n
-  held-line n i =
-      ap (λ (b : List ℕ). placesAt b n) (h .lines)
-      ∙ placesAt-bufferOf (linesOf s) sized n (omega (arith, lines-length))
-      ∙ line-of s n
-
-  pub held-sum : (ms : List ℕ) → ((n : ℕ) → n ∈ ms → n < length s) → sum (placesAt out) ms ≡ sum (lineAt s) ms
-  held-sum ms inside = sum-ext (placesAt out) (lineAt s) ms (λ n m. held-line n (inside n m))
 
   -- line n written with its mark
   pub held-put : (n : ℕ) (w : Word) (m : ℕ) → n < length s → length w ≡ linePlaces

@@ -1,13 +1,21 @@
 -- Laws of repair on lent buffers.
 pub mod Walk
-pub mod Collect
-pub mod Places
+pub mod Seeking
+pub mod Checking
+pub mod Refusing
+pub mod Numbers
+pub mod Mending
 pub mod Held
+pub mod Added
+pub mod Mended
+pub mod Places
+pub mod Starting
 pub mod Settling
 pub mod Trying
 pub mod Mismatching
-pub mod Visiting
-pub mod FirstReading
+pub mod Counting
+pub mod Passing
 pub mod Running
-pub mod Checking
-pub mod Answering
+pub mod FirstReading
+pub mod Sweeping
+pub mod Handing

@@ -1,24 +1,20 @@
--- When a group's faulty lines try places, and which: the mismatch on the buffers that hold the store.
+-- When a group's faulty lines try places, and which: the difference that stands beside the group is its mismatch.
 use mathlib.Core.Path.{_≡_, refl, sym, ap, ap₂, _∙_, subst}
 use mathlib.Core.Bool.{Bool, true, false, cond, _&&_}
-use mathlib.Core.List.{List, [], _∷_}
+use mathlib.Core.List.{List}
 use Prim.Native.Nat.{ℕ, _≤_, _<_}
 use native.Mathlib.Omega.{arith}
 use borrow.Author.Tests.{le-leb, lt-leb}
 use lib.Dec.{leb}
-use lib.ListN.{length, take}
+use lib.ListN.{length, take, getD}
+use lib.Seq.{length-take-le}
 use Rattle.gf2.specs.Word.{Word, _⊕_}
-use Rattle.gf2.proofs.Xor.{length-xor-same}
-use Rattle.linecode.specs.Places.{linePlaces, places, lineOf}
-use Rattle.linecode.proofs.Line.{length-places}
+use Rattle.linecode.specs.Places.{places}
 use Rattle.scheme.specs.Layer.{readLine}
 use Rattle.scheme.specs.Visit.{Group, State, lineAt, faultyOf, sum, setPlaces, mismatch, triable, tryLines, trial}
-use Rattle.rectangle.specs.Store.{lineLayer, placesAt, stride}
+use Rattle.rectangle.specs.Store.{lineLayer, bytesAt, stride}
 use Rattle.rectangle.proofs.Spare.{places-lineOf}
-use Rattle.repair.specs.Lent.{Holding, Lent, Listed, faultyAmong, groupAt}
-use Rattle.repair.proofs.Collect.{group-long}
-use Rattle.repair.proofs.Held.{held-count, held-faulty, held-sum}
-use Rattle.repair.proofs.Settling.{lent-lines, member-inside}
+use Rattle.repair.specs.Lent.{Carried, Listed, Numbered, membersOf, groupOf}
 
 no-second : (a c : Bool) → a && (false && c) ≡ false
 no-second true c = refl
@@ -42,81 +38,62 @@ module _ (g : Group) (s : State) where
       → leb (length (mismatch g s)) 6 ≡ c → triable g s ≡ a && (b && c)
   parts a b c p q r = ap₂ _&&_ p (ap₂ _&&_ q r)
 
-module _ (out marks : List ℕ) (first step count : ℕ) (lent : Lent out marks first step count) (parity : List ℕ)
-    (parity-bytes : length parity ≡ 70) (f : ℕ) (f-is : f ≡ length (faultyAmong marks (stride first step count))) (s : State)
-    (h : Holding out marks s) where
-  faulty-number : f ≡ length (faultyOf s (stride first step count))
-  faulty-number = f-is ∙ ap length (held-faulty out marks s h (stride first step count))
-
+module _ (rows columns : ℕ) (out marks lacks faulty : List ℕ) (k first step count : ℕ) (chosen : Numbered rows columns k first step count)
+    (parity : ℕ → Word) (s : State) (c : Carried rows columns parity out marks lacks faulty s) where
   -- fewer than two faulty lines
-  pub few-faulty : f < 2 → Holding out marks (trial (readLine lineLayer) (groupAt first step count parity) s)
+  pub few-faulty : getD faulty k 0 < 2 → Carried rows columns parity out marks lacks faulty (trial (readLine lineLayer) (groupOf rows columns parity k) s)
   few-faulty l =
-      let n : length (faultyOf s (stride first step count)) < 2 = omega (arith, faulty-number) in
-      subst (Holding out marks)
-      (sym (untried (groupAt first step count parity) s
-      (parts (groupAt first step count parity) s false _ _ (lt-leb 2 (length (faultyOf s (stride first step count))) n) refl refl)))
-      h
+      let n : length (faultyOf s (membersOf rows columns k)) < 2 = omega (arith, c .beside k (chosen .listed) .number) in
+      subst (Carried rows columns parity out marks lacks faulty)
+      (sym (untried (groupOf rows columns parity k) s
+      (parts (groupOf rows columns parity k) s false _ _ (lt-leb 2 (length (faultyOf s (membersOf rows columns k))) n) refl refl)))
+      c
 
-  module _ (sums diff : List ℕ) (sums-are : sums ≡ lineOf (sum (placesAt out) (stride first step count)))
-      (diff-is : diff ≡ lineOf (places sums ⊕ places parity)) (number : ℕ) (array : List ℕ)
-      (listed : Listed (setPlaces 0 (places diff)) number array) where
-    long : length (sum (placesAt out) (stride first step count)) ≡ linePlaces
-    long = group-long out first step count (lent-lines out marks first step count lent)
-
-    sum-is : places sums ≡ sum (lineAt s) (stride first step count)
-    sum-is =
-        ap places sums-are
-        ∙ places-lineOf (sum (placesAt out) (stride first step count)) long
-        ∙ held-sum out marks s h (stride first step count)
-        (λ m i. omega (arith, member-inside first step count (length marks) m (lent .inside) i, held-count out marks s h))
-
-    both : length (places sums ⊕ places parity) ≡ linePlaces
-    both =
-        length-xor-same (places sums) (places parity)
-        (ap length (ap places sums-are ∙ places-lineOf (sum (placesAt out) (stride first step count)) long) ∙ long
-        ∙ sym (length-places parity parity-bytes))
-        ∙ ap length (ap places sums-are ∙ places-lineOf (sum (placesAt out) (stride first step count)) long) ∙ long
-
-    mismatch-is : setPlaces 0 (places diff) ≡ mismatch (groupAt first step count parity) s
+  module _ (lack : List ℕ) (lack-is : lack ≡ bytesAt lacks k) (number : ℕ) (array : List ℕ)
+      (listed : Listed (setPlaces 0 (places lack)) number array) where
+    mismatch-is : setPlaces 0 (places lack) ≡ mismatch (groupOf rows columns parity k) s
     unfolding mismatch
     mismatch-is =
         ap (setPlaces 0)
-        (ap places diff-is ∙ places-lineOf (places sums ⊕ places parity) both ∙ ap (λ (w : Word). w ⊕ places parity) sum-is)
+        (ap places (lack-is ∙ c .beside k (chosen .listed) .lack)
+        ∙ places-lineOf (sum (lineAt s) (membersOf rows columns k) ⊕ parity k) (c .beside k (chosen .listed) .long))
 
-    mismatch-number : number ≡ length (mismatch (groupAt first step count parity) s)
-    mismatch-number = listed .number ∙ ap length mismatch-is
+    few-places : number ≤ 6 → number ≡ length (mismatch (groupOf rows columns parity k) s)
+    few-places h =
+        sym (length-take-le number array (omega (arith, listed .room))) ∙ ap length (listed .few h ∙ mismatch-is)
 
     -- no mismatch, or more than six places
-    pub no-mismatch : number < 1 → Holding out marks (trial (readLine lineLayer) (groupAt first step count parity) s)
+    pub no-mismatch : number < 1 → Carried rows columns parity out marks lacks faulty (trial (readLine lineLayer) (groupOf rows columns parity k) s)
     no-mismatch l =
-        let m : length (mismatch (groupAt first step count parity) s) < 1 = omega (arith, mismatch-number) in
-        subst (Holding out marks)
-        (sym (untried (groupAt first step count parity) s
-        (parts (groupAt first step count parity) s _ false _ refl
-        (lt-leb 1 (length (mismatch (groupAt first step count parity) s)) m) refl
-        ∙ no-second (leb 2 (length (faultyOf s (stride first step count)))) (leb (length (mismatch (groupAt first step count parity) s)) 6))))
-        h
+        let h : number ≤ 6 = omega arith in
+        let m : length (mismatch (groupOf rows columns parity k) s) < 1 = omega (arith, few-places h) in
+        subst (Carried rows columns parity out marks lacks faulty)
+        (sym (untried (groupOf rows columns parity k) s
+        (parts (groupOf rows columns parity k) s _ false _ refl
+        (lt-leb 1 (length (mismatch (groupOf rows columns parity k) s)) m) refl
+        ∙ no-second (leb 2 (length (faultyOf s (membersOf rows columns k)))) (leb (length (mismatch (groupOf rows columns parity k) s)) 6))))
+        c
 
-    pub many-places : 6 < number → Holding out marks (trial (readLine lineLayer) (groupAt first step count parity) s)
+    pub many-places : 6 < number → Carried rows columns parity out marks lacks faulty (trial (readLine lineLayer) (groupOf rows columns parity k) s)
     many-places l =
-        let m : 6 < length (mismatch (groupAt first step count parity) s) = omega (arith, mismatch-number) in
-        subst (Holding out marks)
-        (sym (untried (groupAt first step count parity) s
-        (parts (groupAt first step count parity) s _ _ false refl refl
-        (lt-leb (length (mismatch (groupAt first step count parity) s)) 6 m)
-        ∙ no-third (leb 2 (length (faultyOf s (stride first step count)))) (leb 1 (length (mismatch (groupAt first step count parity) s))))))
-        h
+        let m : 6 < length (mismatch (groupOf rows columns parity k) s) = omega (arith, listed .many l, ap length mismatch-is) in
+        subst (Carried rows columns parity out marks lacks faulty)
+        (sym (untried (groupOf rows columns parity k) s
+        (parts (groupOf rows columns parity k) s _ _ false refl refl
+        (lt-leb (length (mismatch (groupOf rows columns parity k) s)) 6 m)
+        ∙ no-third (leb 2 (length (faultyOf s (membersOf rows columns k)))) (leb 1 (length (mismatch (groupOf rows columns parity k) s))))))
+        c
 
     -- one to six places are tried
-    pub places-tried : (out′ marks′ : List ℕ) → 2 ≤ f → 1 ≤ number → number ≤ 6
-        → Holding out′ marks′ (tryLines (readLine lineLayer) (take number array) s (stride first step count))
-        → Holding out′ marks′ (trial (readLine lineLayer) (groupAt first step count parity) s)
-    places-tried out′ marks′ a b c k =
-        let two : 2 ≤ length (faultyOf s (stride first step count)) = omega (arith, faulty-number) in
-        let one : 1 ≤ length (mismatch (groupAt first step count parity) s) = omega (arith, mismatch-number) in
-        let six : length (mismatch (groupAt first step count parity) s) ≤ 6 = omega (arith, mismatch-number) in
-        subst (Holding out′ marks′)
-        (ap (λ (ps : List ℕ). tryLines (readLine lineLayer) ps s (stride first step count)) (listed .listed c ∙ mismatch-is)
-        ∙ sym (tried (groupAt first step count parity) s
-        (parts (groupAt first step count parity) s true true true (le-leb 2 _ two) (le-leb 1 _ one) (le-leb _ 6 six))))
-        k
+    pub places-tried : (out′ marks′ lacks′ faulty′ : List ℕ) → 2 ≤ getD faulty k 0 → 1 ≤ number → number ≤ 6
+        → Carried rows columns parity out′ marks′ lacks′ faulty′ (tryLines (readLine lineLayer) (take number array) s (stride first step count))
+        → Carried rows columns parity out′ marks′ lacks′ faulty′ (trial (readLine lineLayer) (groupOf rows columns parity k) s)
+    places-tried out′ marks′ lacks′ faulty′ a b h t =
+        let two : 2 ≤ length (faultyOf s (membersOf rows columns k)) = omega (arith, c .beside k (chosen .listed) .number) in
+        let one : 1 ≤ length (mismatch (groupOf rows columns parity k) s) = omega (arith, few-places h) in
+        let six : length (mismatch (groupOf rows columns parity k) s) ≤ 6 = omega (arith, few-places h) in
+        subst (Carried rows columns parity out′ marks′ lacks′ faulty′)
+        (ap₂ (λ (ps ms : List ℕ). tryLines (readLine lineLayer) ps s ms) (listed .few h ∙ mismatch-is) (chosen .lines)
+        ∙ sym (tried (groupOf rows columns parity k) s
+        (parts (groupOf rows columns parity k) s true true true (le-leb 2 _ two) (le-leb 1 _ one) (le-leb _ 6 six))))
+        t

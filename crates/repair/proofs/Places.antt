@@ -1,29 +1,35 @@
 -- The loop that lists the set places of a line.
-use mathlib.Core.Path.{_≡_, refl, sym, ap, ap₂, _∙_, subst}
+use mathlib.Core.Path.{_≡_, refl, sym, ap, _∙_, subst}
 use mathlib.Core.Bool.{Bool, true, false}
 use mathlib.Core.List.{List, [], _∷_, _++_, append-nil, append-assoc}
-use Prim.Native.Nat.{ℕ, zero, suc, _+_, _-_, _≤_, _<_}
-use native.Mathlib.Decide.{decLt}
+use Prim.Native.Nat.{ℕ, suc, _+_, _≤_, _<_}
 use native.Mathlib.Numerals.{add-one}
 use native.Mathlib.Omega.{arith}
 use lib.ListN.{length, take, drop, getD, set, replicate, length-append, length-set, drop-of-length-le}
-use lib.Seq.{drop-cons, take-suc-set, take-all, take-append-le}
+use lib.Seq.{drop-cons, take-suc-set}
 use Rattle.gf2.specs.Word.{Word}
+use Rattle.linecode.specs.Places.{places}
 use Rattle.scheme.specs.Visit.{setPlaces}
-use Rattle.repair.specs.Lent.{Listed}
+use Rattle.repair.specs.Lent.{Listed, allZero}
+use Rattle.repair.proofs.Added.{zero-no-places}
 
--- after i places: those found so far, the first six of them in the array
+-- after i places: those found so far, in the array
 pub record Listing (w : Word) (array : List ℕ) (count i : ℕ) : Type 0 where
   pub found : List ℕ
   pub number : length found ≡ count
-  pub few : count ≤ i
+  pub small : count ≤ 6
   pub room : length array ≡ 6
-  pub kept : count ≤ 6 → take count array ≡ found
+  pub kept : take count array ≡ found
   pub total : setPlaces 0 w ≡ found ++ setPlaces i (drop i w)
 
 pub listing-start : (w : Word) → Listing w (replicate 6 0) 0 0
 listing-start w =
-    record { found = []; number = refl; few = omega arith; room = refl; kept = λ h. refl; total = refl }
+    record { found = []; number = refl; small = omega arith; room = refl; kept = refl; total = refl }
+
+-- a line of zeros has no places
+pub listing-zero : (line : List ℕ) → length line ≡ 70 → true ≡ allZero line → Listed (setPlaces 0 (places line)) 0 (replicate 6 0)
+listing-zero line e z =
+    record { room = refl; few = λ h. sym (zero-no-places line e (sym z)); many = λ h. let y : ⊥ = omega arith in absurd y }
 
 -- the same with the array or the number under another name
 pub relist-array : (w : Word) (a b : List ℕ) (count i : ℕ) → a ≡ b → Listing w b count i → Listing w a count i
@@ -48,29 +54,27 @@ module _ (w : Word) (array : List ℕ) (count i : ℕ) (l : Listing w array coun
   one-more = length-append (l .found) (i ∷ []) ∙ ap (λ (n : ℕ). n + 1) (l .number)
 
   -- a set place, with room for it and without
-  pub listing-kept : getD w i false ≡ true → count < 6 → Listing w (set array count i) (count + 1) (i + 1)
+  pub listing-kept : getD w i false ≡ true → (count ≡ 6 → ⊥) → Listing w (set array count i) (count + 1) (i + 1)
   listing-kept e h =
       record {
         found = l .found ++ (i ∷ []);
         number = one-more;
-        few = omega (arith, l .few);
+        small = omega (arith, l .small);
         room = length-set array count i ∙ l .room;
-        kept = λ k.
+        kept =
             ap (λ (n : ℕ). take n (set array count i)) (add-one count)
-            ∙ take-suc-set array count i (omega (arith, l .room))
-            ∙ ap (λ (p : List ℕ). p ++ (i ∷ [])) (l .kept (omega arith));
+            ∙ take-suc-set array count i (omega (arith, l .room, l .small))
+            ∙ ap (λ (p : List ℕ). p ++ (i ∷ [])) (l .kept);
         total = total-set e;
       }
 
-  pub listing-full : getD w i false ≡ true → 6 ≤ count → Listing w array (count + 1) (i + 1)
+  pub listing-full : getD w i false ≡ true → count ≡ 6 → Listed (setPlaces 0 w) 7 array
   listing-full e h =
       record {
-        found = l .found ++ (i ∷ []);
-        number = one-more;
-        few = omega (arith, l .few);
         room = l .room;
-        kept = λ k. let z : ⊥ = omega arith in absurd z;
-        total = total-set e;
+        few = λ k. let z : ⊥ = omega arith in absurd z;
+        many = λ k.
+            omega (arith, ap length (total-set e), length-append (l .found ++ (i ∷ [])) (setPlaces (i + 1) (drop (i + 1) w)), one-more);
       }
 
   pub listing-clear : getD w i false ≡ false → Listing w array count (i + 1)
@@ -78,7 +82,7 @@ module _ (w : Word) (array : List ℕ) (count i : ℕ) (l : Listing w array coun
       record {
         found = l .found;
         number = l .number;
-        few = omega (arith, l .few);
+        small = l .small;
         room = l .room;
         kept = l .kept;
         total =
@@ -89,7 +93,7 @@ module _ (w : Word) (array : List ℕ) (count i : ℕ) (l : Listing w array coun
 
 pub listing-end : (w : Word) (array : List ℕ) (count i : ℕ) → Listing w array count i → length w ≤ i → Listed (setPlaces 0 w) count array
 listing-end w array count i l h =
-    record { number = sym (ap length all ∙ l .number); room = l .room; listed = λ k. l .kept k ∙ sym all }
+    record { room = l .room; few = λ k. l .kept ∙ sym all; many = λ k. let z : ⊥ = omega (arith, l .small) in absurd z }
   where
     all : setPlaces 0 w ≡ l .found
     all =

@@ -1,27 +1,25 @@
 -- Settling a group on the buffers that hold the store: exactly one faulty line is rebuilt.
 use mathlib.Core.Path.{_≡_, refl, sym, ap, ap₂, _∙_, subst}
-use mathlib.Core.Logic.{_⊎_, inl, inr}
-use mathlib.Core.Bool.{Bool, true, false}
-use mathlib.Core.List.{List, [], _∷_, _++_}
-use Prim.Native.Nat.{ℕ, zero, suc, _+_, _*_, _/_, _≤_, _<_}
+use mathlib.Core.Logic.{inl}
+use mathlib.Core.List.{List, [], _∷_}
+use Prim.Native.Nat.{ℕ, _*_, _<_}
 use native.Mathlib.Omega.{arith}
+use borrow.Author.Tests.{eqb-true}
 use lib.Dec.{eqb}
 use lib.ListN.{length, getD, set}
-use Rattle.gf2.specs.Word.{Word, _⊕_}
-use Rattle.gf2.proofs.Xor.{xor-comm, xor-assoc, xor-cancel, length-xor-same}
+use Rattle.gf2.specs.Word.{Word, _⊕_, zeros}
+use Rattle.gf2.proofs.Xor.{xor-comm, xor-assoc, xor-self, length-xor-same}
+use Rattle.gf2.proofs.Crc.{zeros-xor}
 use Rattle.linecode.specs.Places.{linePlaces, places, lineOf}
-use Rattle.linecode.proofs.Line.{length-places}
-use Rattle.scheme.specs.Layer.{Cell}
-use Rattle.scheme.specs.Visit.{Group, State, cellAt, lineAt, faultyOf, without, sum, rebuild, rebuildOnly, settle}
+use Rattle.scheme.specs.Visit.{Group, State, lineAt, faultyOf, without, sum, rebuild, rebuildOnly, settle}
 use Rattle.scheme.specs.Demand3.{_∈_}
 use Rattle.scheme.proofs.Lists.{selected}
 use Rattle.scheme.proofs.Sums.{sum-split}
-use Rattle.rectangle.specs.Store.{placesAt, bytesAt, putBytes, stride}
+use Rattle.rectangle.specs.Store.{bytesAt, stride}
 use Rattle.rectangle.proofs.Spare.{places-lineOf}
-use Rattle.rectangle.proofs.Stride.{stride-index, rising-stride}
-use Rattle.repair.specs.Lent.{Holding, Inside, Lent, faultyAmong, groupAt}
-use Rattle.repair.proofs.Collect.{group-long}
-use Rattle.repair.proofs.Held.{held-count, held-faulty, held-bytes, held-line, held-sum, held-put}
+use Rattle.repair.specs.Lent.{Room, Carried, Some, Inside, Numbered, faultyAmong, membersOf, groupOf}
+use Rattle.repair.proofs.Numbers.{members-rising, members-inside}
+use Rattle.repair.proofs.Held.{held-count, held-faulty, held-bytes}
 
 -- a list of one, by its first
 one-only : (l : List ℕ) → length l ≡ 1 → l ≡ getD l 0 0 ∷ []
@@ -30,7 +28,7 @@ one-only (n ∷ []) e = refl
 one-only (n ∷ m ∷ l) e = let z : ⊥ = omega arith in absurd z
 
 -- none or several are left as they are
-pub not-one : (g : Group) (s : State) → (length (faultyOf s (g .members)) ≡ 1 → ⊥) → settle g s ≡ s
+not-one : (g : Group) (s : State) → (length (faultyOf s (g .members)) ≡ 1 → ⊥) → settle g s ≡ s
 unfolding settle
 not-one g s h = go (faultyOf s (g .members)) h
   where
@@ -39,131 +37,115 @@ not-one g s h = go (faultyOf s (g .members)) h
     go (n ∷ []) k = absurd (k refl)
     go (n ∷ m ∷ l) k = refl
 
--- a group's lines lie inside
-pub member-inside : (first step count k n : ℕ) → Inside first step count k → n ∈ stride first step count → n < k
-member-inside first step count k n i m =
-    let p = stride-index first step count n m in
-    subst (λ (x : ℕ). x < k) (sym (p .2)) (i .each (p .0) (p .1))
-
--- the only faulty line is one of the group
-pub first-member : (marks : List ℕ) (ms : List ℕ) → length (faultyAmong marks ms) ≡ 1 → getD (faultyAmong marks ms) 0 0 ∈ ms
+-- the only faulty line is one of the group, and faulty
+first-member : (marks : List ℕ) (ms : List ℕ) → length (faultyAmong marks ms) ≡ 1
+    → (getD (faultyAmong marks ms) 0 0 ∈ ms) × (getD marks (getD (faultyAmong marks ms) 0 0) 0 ≡ 4)
 unfolding faultyAmong
 first-member marks ms e =
     let found : getD (faultyAmong marks ms) 0 0 ∈ faultyAmong marks ms =
     subst (λ (l : List ℕ). getD (faultyAmong marks ms) 0 0 ∈ l) (sym (one-only (faultyAmong marks ms) e)) (inl refl) in
-    (selected (λ n. eqb (getD marks n 0) 4) ms (getD (faultyAmong marks ms) 0 0) found) .0
+    let both = selected (λ n. eqb (getD marks n 0) 4) ms (getD (faultyAmong marks ms) 0 0) found in
+    (both .0, eqb-true _ 4 (both .1))
 
--- the only faulty line is inside
-pub below-marks : (out marks : List ℕ) (first step count f n : ℕ) → Lent out marks first step count
-    → f ≡ length (faultyAmong marks (stride first step count)) → f ≡ 1
-    → n ≡ getD (faultyAmong marks (stride first step count)) 0 0 → n < length marks
-below-marks out marks first step count f n lent e one q =
-    member-inside first step count (length marks) n (lent .inside)
-    (subst (λ (m : ℕ). m ∈ stride first step count) (sym q) (first-member marks (stride first step count) (sym e ∙ one)))
+-- one line, added to the sum of all lines and the parity line, leaves the parity line and the others
+others : (p l r : Word) → length l ≡ linePlaces → length p ≡ linePlaces → l ⊕ ((l ⊕ r) ⊕ p) ≡ p ⊕ r
+others p l r e f =
+    ap (λ (x : Word). l ⊕ x) (xor-assoc l r p)
+    ∙ sym (xor-assoc l l (r ⊕ p))
+    ∙ ap (λ (x : Word). x ⊕ (r ⊕ p)) (xor-self l)
+    ∙ ap (λ (x : Word). zeros (length l) ⊕ x) (xor-comm r p)
+    ∙ sym (xor-assoc (zeros (length l)) p r)
+    ∙ ap (λ (x : Word). x ⊕ r) (zeros-xor (length l) p (f ∙ sym e))
 
--- the sum of all lines, of the parity line and of one line again is that of the parity line and the others
-others : (p l r : Word) → length l ≡ length p → p ⊕ (l ⊕ r) ⊕ l ≡ p ⊕ r
-others p l r e =
-    ap (λ (x : Word). x ⊕ l) (sym (xor-assoc p l r))
-    ∙ xor-assoc (p ⊕ l) r l
-    ∙ ap (λ (x : Word). (p ⊕ l) ⊕ x) (xor-comm r l)
-    ∙ sym (xor-assoc (p ⊕ l) l r)
-    ∙ ap (λ (x : Word). x ⊕ r) (xor-cancel p l (omega arith))
+pub still-inside : (first step count k m : ℕ) → m ≡ k → Inside first step count k → Inside first step count m
+still-inside first step count k m e i = subst (Inside first step count) (sym e) i
 
--- buffers of the same lengths are lent as well
-pub still-lent : (out marks out′ marks′ : List ℕ) (first step count : ℕ) → Lent out marks first step count
-    → length out′ ≡ length out → length marks′ ≡ length marks → Lent out′ marks′ first step count
-still-lent out marks out′ marks′ first step count l e f =
-    record {
-      room = e ∙ l .room ∙ ap (λ (k : ℕ). k * 70) (sym f);
-      inside = subst (Inside first step count) (sym f) (l .inside);
-    }
+module _ (rows columns : ℕ) (out marks lacks faulty : List ℕ) (room : Room rows columns out marks lacks faulty) (k first step count : ℕ)
+    (chosen : Numbered rows columns k first step count) where
+  some-columns : 0 < columns
+  some-columns = omega (arith, room .rect .columnsLow)
 
-module _ (out marks : List ℕ) (first step count : ℕ) (lent : Lent out marks first step count) where
-  pub lent-lines : Inside first step count (length out / 70)
-  lent-lines = subst (Inside first step count) (sym (seventieth (length out) (length marks) (lent .room))) (lent .inside)
-    where
-      seventieth : (a k : ℕ) → a ≡ k * 70 → a / 70 ≡ k
-      seventieth a k e = omega arith
+  module _ (parity : ℕ → Word) (s : State) (c : Carried rows columns parity out marks lacks faulty s) where
+    same-faulty : faultyAmong marks (stride first step count) ≡ faultyOf s (membersOf rows columns k)
+    same-faulty = held-faulty out marks s (c .held) (stride first step count) ∙ ap (faultyOf s) (chosen .lines)
 
-module _ (out marks : List ℕ) (first step count : ℕ) (lent : Lent out marks first step count) (parity : List ℕ)
-    (parity-bytes : length parity ≡ 70) (only : length (faultyAmong marks (stride first step count)) ≡ 1) (n : ℕ)
-    (n-is : n ≡ getD (faultyAmong marks (stride first step count)) 0 0) where
-  -- what the rebuilt line is, whatever store the buffers hold
-  pub rebuilt-held : (sums all line rebuilt after : List ℕ) → sums ≡ lineOf (sum (placesAt out) (stride first step count))
-      → all ≡ lineOf (places parity ⊕ places sums)
-      → line ≡ bytesAt out n → rebuilt ≡ lineOf (places all ⊕ places line)
-      → after ≡ putBytes out n rebuilt
-      → (s : State) → Holding out marks s
-      → Holding after (set marks n 3) (settle (groupAt first step count parity) s)
-  unfolding settle rebuild
-  rebuilt-held sums all line rebuilt after a b c d e s h =
-      subst (λ (t : State). Holding after (set marks n 3) t) (sym settled)
-      (subst (λ (x : List ℕ). Holding x (set marks n 3) (set s n (record { line = word; mark = 3 })))
-      (sym (e ∙ ap (putBytes out n) rebuilt-is))
-      (held-put out marks s h n word 3 n-below long))
-    where
-      ms : List ℕ
-      ms = stride first step count
+    number-is : getD faulty k 0 ≡ length (faultyOf s (membersOf rows columns k))
+    number-is = c .beside k (chosen .listed) .number
 
-      p : Word
-      p = places parity
+    -- not exactly one
+    pub unsettled : (getD faulty k 0 ≡ 1 → ⊥) → Carried rows columns parity out marks lacks faulty (settle (groupOf rows columns parity k) s)
+    unsettled d =
+        subst (Carried rows columns parity out marks lacks faulty)
+        (sym (not-one (groupOf rows columns parity k) s (λ (e : length (faultyOf s (membersOf rows columns k)) ≡ 1). d (number-is ∙ e)))) c
 
-      member : n ∈ ms
-      member = subst (λ (m : ℕ). m ∈ ms) (sym n-is) (first-member marks ms only)
+  module _ (one : getD faulty k 0 ≡ 1) (n : ℕ) (n-is : n ≡ getD (faultyAmong marks (stride first step count)) 0 0) where
+    only : (parity : ℕ → Word) (s : State) → Carried rows columns parity out marks lacks faulty s
+        → length (faultyAmong marks (stride first step count)) ≡ 1
+    only parity s c = ap length (same-faulty parity s c) ∙ sym (number-is parity s c) ∙ one
 
-      n-inside : n < length marks
-      n-inside = member-inside first step count (length marks) n (lent .inside) member
+    member : Some rows columns out marks lacks faulty → n ∈ membersOf rows columns k
+    member held =
+        subst (λ (l : List ℕ). n ∈ l) (chosen .lines)
+        (subst (λ (m : ℕ). m ∈ stride first step count) (sym n-is)
+        (first-member marks (stride first step count) (only (held .0) (held .1) (held .2)) .0))
 
-      n-below : n < length s
-      n-below = omega (arith, n-inside, held-count out marks s h)
+    pub only-inside : Some rows columns out marks lacks faulty → n < rows * columns
+    only-inside held = members-inside rows columns some-columns n k (chosen .listed) (member held)
 
-      word : Word
-      word = p ⊕ sum (lineAt s) (without n ms)
+    pub only-faulty : Some rows columns out marks lacks faulty → getD marks n 0 ≡ 4
+    only-faulty held =
+        ap (λ (m : ℕ). getD marks m 0) n-is ∙ first-member marks (stride first step count) (only (held .0) (held .1) (held .2)) .1
 
-      total : sum (placesAt out) ms ≡ lineAt s n ⊕ sum (lineAt s) (without n ms)
-      total =
-          held-sum out marks s h ms
-          (λ m i. omega (arith, member-inside first step count (length marks) m (lent .inside) i, held-count out marks s h))
-          ∙ sum-split (lineAt s) n ms (rising-stride first step count (lent .inside .apart)) member
+    module _ (parity : ℕ → Word) (s : State) (c : Carried rows columns parity out marks lacks faulty s) (line lack rebuilt : List ℕ)
+        (lack-is : lack ≡ bytesAt lacks k) (line-is : line ≡ bytesAt out n) (rebuilt-from : rebuilt ≡ lineOf (places line ⊕ places lack)) where
+      pub word : Word
+      word = parity k ⊕ sum (lineAt s) (without n (membersOf rows columns k))
 
-      whole : length (sum (placesAt out) ms) ≡ linePlaces
-      whole = group-long out first step count (lent-lines out marks first step count lent)
-
-      wide : length p ≡ linePlaces
-      wide = length-places parity parity-bytes
+      below : n < length s
+      below = omega (arith, only-inside (parity, s, c), held-count out marks s (c .held), room .rect .markBytes)
 
       own : length (lineAt s n) ≡ linePlaces
-      own = h .wide n n-below
+      own = c .held .wide n below
 
-      sums-are : places sums ≡ sum (placesAt out) ms
-      sums-are = ap places a ∙ places-lineOf (sum (placesAt out) ms) whole
+      whole : Word
+      whole = sum (lineAt s) (membersOf rows columns k) ⊕ parity k
 
-      both : length (p ⊕ sum (placesAt out) ms) ≡ linePlaces
-      both = length-xor-same p (sum (placesAt out) ms) (wide ∙ sym whole) ∙ wide
+      long : length whole ≡ linePlaces
+      unfolding whole
+      long = c .beside k (chosen .listed) .long
 
-      all-are : places all ≡ p ⊕ sum (placesAt out) ms
-      all-are =
-          ap places (b ∙ ap (λ (x : Word). lineOf (p ⊕ x)) sums-are) ∙ places-lineOf (p ⊕ sum (placesAt out) ms) both
+      split : whole ≡ (lineAt s n ⊕ sum (lineAt s) (without n (membersOf rows columns k))) ⊕ parity k
+      unfolding whole
+      split =
+          ap (λ (w : Word). w ⊕ parity k)
+          (sum-split (lineAt s) n (membersOf rows columns k) (members-rising rows columns some-columns k (chosen .listed)) (member (parity, s, c)))
 
-      line-is : places line ≡ lineAt s n
-      line-is = ap places (c ∙ held-bytes out marks s h n n-below) ∙ places-lineOf (lineAt s n) own
+      lack-places : places lack ≡ whole
+      unfolding whole
+      lack-places = ap places (lack-is ∙ c .beside k (chosen .listed) .lack) ∙ places-lineOf whole long
 
-      word-is : places all ⊕ places line ≡ word
-      word-is =
-          ap₂ _⊕_ (all-are ∙ ap (λ (x : Word). p ⊕ x) total) line-is
-          ∙ others p (lineAt s n) (sum (lineAt s) (without n ms)) (own ∙ sym wide)
+      line-places : places line ≡ lineAt s n
+      line-places = ap places (line-is ∙ held-bytes out marks s (c .held) n below) ∙ places-lineOf (lineAt s n) own
 
-      long : length word ≡ linePlaces
-      long =
-          ap length (sym word-is)
-          ∙ length-xor-same (places all) (places line) (ap length all-are ∙ both ∙ sym (ap length line-is ∙ own))
-          ∙ ap length all-are ∙ both
+      sum-is : places line ⊕ places lack ≡ word
+      unfolding word
+      sum-is =
+          ap₂ _⊕_ line-places (lack-places ∙ split)
+          ∙ others (parity k) (lineAt s n) (sum (lineAt s) (without n (membersOf rows columns k))) own (c .beside k (chosen .listed) .wide)
 
-      rebuilt-is : rebuilt ≡ lineOf word
-      rebuilt-is = d ∙ ap lineOf word-is
+      pub word-long : length word ≡ linePlaces
+      word-long =
+          ap length (sym sum-is)
+          ∙ length-xor-same (places line) (places lack) (ap length line-places ∙ own ∙ sym (ap length lack-places ∙ long))
+          ∙ ap length line-places ∙ own
 
-      settled : settle (groupAt first step count parity) s ≡ set s n (record { line = word; mark = 3 })
+      pub rebuilt-is : rebuilt ≡ lineOf word
+      rebuilt-is = rebuilt-from ∙ ap lineOf sum-is
+
+      pub settled : set s n (record { line = word; mark = 3 }) ≡ settle (groupOf rows columns parity k) s
+      unfolding settle rebuild word
       settled =
-          ap (rebuildOnly (groupAt first step count parity) s)
-          (sym (held-faulty out marks s h ms) ∙ one-only (faultyAmong marks ms) only ∙ ap (λ (m : ℕ). m ∷ []) (sym n-is))
+          sym (ap (rebuildOnly (groupOf rows columns parity k) s)
+          (sym (same-faulty parity s c)
+          ∙ one-only (faultyAmong marks (stride first step count)) (only parity s c)
+          ∙ ap (λ (m : ℕ). m ∷ []) (sym n-is)))

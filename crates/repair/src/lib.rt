@@ -1,18 +1,19 @@
 // Repair of a rectangle: document 01's steps on lent buffers. Document 01, "Repair".
-pub mod group;
-pub mod parity;
-pub mod passes;
-pub mod visit;
+mod group;
+mod parity;
+mod passes;
+mod reading;
+mod visit;
 
 ghost use mathlib.Core.Path.{_≡_};
-ghost use Prim.Native.Nat.{_*_};
+ghost use Prim.Native.Nat.{ℕ, _+_, _*_, _≤_};
 ghost use lib.ListN.{length};
+ghost use Rattle.gf2.specs.Word.{Word};
 ghost use Rattle.scheme.specs.Visit.{State};
 ghost use Rattle.scheme.specs.Repair.{answer};
-ghost use Rattle.rectangle.specs.Store.{groups};
 ghost use Rattle.rectangle.specs.Refusals.{repairRefusal};
 ghost use Rattle.rectangle.specs.Repair.{StoreRepaired, repairStore};
-ghost use Rattle.repair.specs.Lent.{Rectangular, Holding};
+ghost use Rattle.repair.specs.Lent.{Tracked, allGroups};
 use rectangle::sizes;
 
 // What repair answers, and its passes.
@@ -59,27 +60,17 @@ fn refusal(
     0
 }
 
-// The answer after the last pass: 11 where faulty lines are left, 12 where some parity line differs from that of the lines.
-fn answer_after(
-    rows: usize,
-    columns: usize,
-    row_table: &[u8],
-    column_table: &[u8],
-    out: &[u8],
-    marks: &[u8],
-) -> u32
-    requires rectangle { ⌜ Rectangular rows columns (now out) (now marks) ⌝ }
-    requires tables { ⌜ (length (now «row_table») ≡ rows * 70) × (length (now «column_table») ≡ columns * 70) ⌝ }
-    ensures { λ r. ⌜ ((s : State) → Holding (now (out .entry)) (now (marks .entry)) s
-        → r ≡ answer (groups rows columns (now («row_table» .entry)) (now («column_table» .entry))) s) ⌝ }
+// The answer after the last pass: 11 where faulty lines are left, 12 where some group's difference is not 0.
+fn answer_after(rows: usize, columns: usize, lacks: &[u8], faulty: &[u16]) -> u32
+    requires { ⌜ (rows ≤ 512) × (columns ≤ 512) × (length (now lacks) ≡ 71680) × (length (now faulty) ≡ 1024) ⌝ }
+    ensures { λ r. ⌜ ((parity : ℕ → Word) (s : State) → length s ≡ rows * columns
+        → Tracked rows columns parity (now (lacks .entry)) (now (faulty .entry)) s
+        → r ≡ answer (allGroups rows columns parity) s) ⌝ }
 {
-    if group::count_faulty(marks, 0, 1, rows * columns) != 0 {
+    if group::count_faulty(rows, faulty) != 0 {
         return 11;
     }
-    if !parity::rows_agree(rows, columns, row_table, out, marks) {
-        return 12;
-    }
-    if !parity::columns_agree(rows, columns, column_table, out, marks) {
+    if !group::all_agree(rows + columns, lacks) {
         return 12;
     }
     0
@@ -106,8 +97,22 @@ pub fn repair(
             passes: 0,
         };
     }
-    passes::read_all(lines, out, marks, rows * columns);
-    let passes = passes::run_passes(rows, columns, row_table, column_table, out, marks);
-    let answer = answer_after(rows, columns, row_table, column_table, out, marks);
+    let slices = register::slices::slices();
+    let mut lacks = [0u8; 71680];
+    let mut faulty = [0u16; 1024];
+    parity::start_rows(rows, row_table, &mut lacks);
+    parity::start_columns(rows, columns, column_table, &mut lacks);
+    reading::read_all(
+        &slices,
+        lines,
+        out,
+        marks,
+        &mut lacks,
+        &mut faulty,
+        rows,
+        columns,
+    );
+    let passes = passes::run_passes(&slices, out, marks, &mut lacks, &mut faulty, rows, columns);
+    let answer = answer_after(rows, columns, &lacks, &faulty);
     Repaired { answer, passes }
 }

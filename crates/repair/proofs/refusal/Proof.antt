@@ -1,11 +1,11 @@
 -- `repair::refusal` meets its contract: each way out is the first test that fails.
 use native.Mathlib.Omega.{arith}
 use borrow.Author.Needs.{needs}
-use mathlib.Core.Path.{_≡_, refl, sym, _∙_}
+use mathlib.Core.Path.{refl, sym, _∙_}
 use mathlib.Core.Bool.{true, false}
 use borrow.Author.Tests.{not-true, not-false}
 use Rattle.rectangle.proofs.Refusing.{SizesPass, sizes-passed}
-use Rattle.repair.proofs.Answering.{refused-sizes, refused-out, refused-marks, parity-decides, few}
+use Rattle.repair.proofs.Refusing.{refused-sizes, refused-out, refused-marks, parity-decides, few}
 use Rattle.repair.proofs.refusal.Statement.{statement}
 use Rattle.repair.proofs.refusal.Tie as tie
 

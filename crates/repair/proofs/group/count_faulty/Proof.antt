@@ -1,47 +1,48 @@
 -- `repair::group::count_faulty` meets its contract.
-use borrow.Author.Needs.{needs}
 use native.Mathlib.Omega.{arith}
-use Prim.Native.Nat.{ℕ, _-_}
-use mathlib.Core.Logic.{⊎-elim}
-use Rattle.repair.proofs.Walk.{walk-in, walk-small}
-use Rattle.repair.proofs.Collect.{Counting, counting-start, counting-faulty, counting-other, counting-end}
+use mathlib.Core.Path.{_≡_, refl, sym, ap, _∙_}
+use Prim.Native.Nat.{ℕ, _+_, _-_, _*_, _≤_}
+use native.Mathlib.Numerals.{add-one}
+use lib.ListN.{getD}
+use Rattle.repair.specs.Lent.{countTo}
 use Rattle.repair.proofs.group.count_faulty.Statement.{statement}
 use Rattle.repair.proofs.group.count_faulty.Tie as tie
 
 abbrev Inv-loop : tie.InvT-loop
-Inv-loop marks first step count found₀ n₀ i₀ found n i = Counting marks first step count found n i
+Inv-loop rows faulty found₀ r₀ found r = (found ≡ countTo faulty r) × (found ≤ r * 65535) × (r ≤ rows)
 
 abbrev μ-loop : tie.MeasureT-loop
-μ-loop marks first step count found₀ n₀ i₀ found n i = count - i
+μ-loop rows faulty found₀ r₀ found r = rows - r
 
 loop-holds : tie.Need-loop-holds Inv-loop μ-loop
-loop-holds c = counting-start (c .args .marks .now) (c .args .first) (c .args .step) (c .args .count) (c .pre)
+loop-holds c = (refl, omega arith, omega arith)
 
-shared-slice-read-if1 : tie.Need-shared-slice-read-if1 Inv-loop μ-loop
-shared-slice-read-if1 c = walk-in _ _ _ _ _ _ (c .before .before .loop .inv .walk) (c .before .loop-test .taken)
+mul-found : tie.Need-mul-found Inv-loop μ-loop
+mul-found c = omega arith
+
+shared-slice-read-found : tie.Need-shared-slice-read-found Inv-loop μ-loop
+shared-slice-read-found c = omega arith
+
+cast-found : tie.Need-cast-found Inv-loop μ-loop
+cast-found c = omega (arith, c .shared-slice-known .given (c .before .before .loop .r))
 
 add-found : tie.Need-add-found Inv-loop μ-loop
-add-found c = omega arith
+add-found c = omega (arith, c .shared-slice-known .given (c .before .before .loop .r))
 
-add-n : tie.Need-add-n Inv-loop μ-loop
-add-n c = omega (arith, walk-small _ _ _ _ _ _ (c .before .before .before .loop .inv .walk) (c .before .before .loop-test .taken))
-
-add-i : tie.Need-add-i Inv-loop μ-loop
-add-i c = omega arith
+add-r : tie.Need-add-r Inv-loop μ-loop
+add-r c = omega arith
 
 loop-less : tie.Need-loop-less Inv-loop μ-loop
 loop-less c = omega arith
 
 loop-again : tie.Need-loop-again Inv-loop μ-loop
 loop-again c =
-    let here = c .before .before .before .loop in
-    let more = c .before .before .loop-test .taken in
-    ⊎-elim (λ w. counting-faulty _ _ _ _ _ _ _ (here .inv) more _ (w .0 .taken) (w .1))
-    (λ w. counting-other _ _ _ _ _ _ _ (here .inv) more _ (w .0 .left) (w .1))
-    (c .if1 .came)
+    (ap (λ (x : ℕ). x + getD (c .before .before .before .args .faulty .now) (c .before .before .loop .r) 0) (c .before .before .loop .inv .0) ∙ ap (countTo (c .before .before .before .args .faulty .now)) (sym (add-one (c .before .before .loop .r))), omega (arith, c .shared-slice-known .given (c .before .before .loop .r)), omega arith)
 
 returns : tie.Need-returns Inv-loop μ-loop
-returns c = counting-end _ _ _ _ _ _ _ (c .before .loop .inv) (c .loop-test .left)
+returns c =
+    let last : c .before .loop .r ≡ c .before .before .args .rows = omega arith in
+    c .before .loop .inv .0 ∙ ap (countTo (c .before .before .args .faulty .now)) last
 
 pub count-faulty-spec : {M : Type 1} → statement M
 count-faulty-spec =
@@ -50,10 +51,11 @@ count-faulty-spec =
     Inv-loop
     μ-loop
     loop-holds
-    shared-slice-read-if1
+    mul-found
+    shared-slice-read-found
+    cast-found
     add-found
-    add-n
-    add-i
+    add-r
     loop-less
     loop-again
     returns)

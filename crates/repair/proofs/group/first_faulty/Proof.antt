@@ -1,9 +1,8 @@
 -- `repair::group::first_faulty` meets its contract.
-use borrow.Author.Needs.{needs}
 use native.Mathlib.Omega.{arith}
-use Prim.Native.Nat.{ℕ, _-_}
+use Prim.Native.Nat.{_-_}
 use Rattle.repair.proofs.Walk.{walk-in, walk-small}
-use Rattle.repair.proofs.Collect.{Seeking, seeking-start, seeking-found, seeking-other, seeking-end}
+use Rattle.repair.proofs.Seeking.{Seeking, seeking-start, seeking-found, seeking-other, seeking-end}
 use Rattle.repair.proofs.group.first_faulty.Statement.{statement}
 use Rattle.repair.proofs.group.first_faulty.Tie as tie
 

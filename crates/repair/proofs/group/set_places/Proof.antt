@@ -1,14 +1,14 @@
 -- `repair::group::set_places` meets its contract.
 use borrow.Author.Needs.{needs}
 use native.Mathlib.Omega.{arith}
-use Prim.Native.Nat.{ℕ, _-_, _≤_, _<_}
+use Prim.Native.Nat.{_-_, _≤_, _<_}
 use mathlib.Core.Path.{_≡_, sym, _∙_}
 use mathlib.Core.Logic.{⊎-elim}
 use lib.ListN.{length}
 use Rattle.linecode.specs.Places.{places}
 use Rattle.linecode.proofs.Bytes.{array-length}
 use Rattle.linecode.proofs.Line.{places-is, length-places}
-use Rattle.repair.proofs.Places.{Listing, listing-start, listing-kept, listing-full, listing-clear, listing-end, relist, relist-array}
+use Rattle.repair.proofs.Places.{Listing, listing-start, listing-zero, listing-kept, listing-full, listing-clear, listing-end, relist, relist-array}
 use Rattle.repair.proofs.group.set_places.Statement.{statement}
 use Rattle.repair.proofs.group.set_places.Tie as tie
 
@@ -18,11 +18,23 @@ Inv-loop line at₀ count₀ i₀ at count i = (i ≤ 553) × (length (places li
 abbrev μ-loop : tie.MeasureT-loop
 μ-loop line at₀ count₀ i₀ at count i = 553 - i
 
+is-zero-requires : tie.Need-is-zero-requires Inv-loop μ-loop
+is-zero-requires c κs = search needs
+
+returns : tie.Need-returns Inv-loop μ-loop
+returns c =
+    listing-zero (c .before .before .args .line) (array-length 70 (c .before .before .args .line) _ (c .before .before .good .0)) (sym (c .if1 .taken) ∙ c .before .is-zero .ensures)
+
 loop-holds : tie.Need-loop-holds Inv-loop μ-loop
-loop-holds c = (omega arith, length-places (c .args .line) (array-length 70 (c .args .line) _ (c .good .0)) ∙ places-is, listing-start (places (c .args .line)))
+loop-holds c =
+    (omega arith, length-places (c .before .before .args .line) (array-length 70 (c .before .before .args .line) _ (c .before .before .good .0)) ∙ places-is, listing-start (places (c .before .before .args .line)))
 
 is-set-requires : tie.Need-is-set-requires Inv-loop μ-loop
 is-set-requires c κs = search needs
+
+returns-2 : tie.Need-returns-2 Inv-loop μ-loop
+returns-2 c =
+    listing-full (places (c .before .before .before .before .before .before .before .args .line)) _ _ (c .before .before .before .before .loop .i) (c .before .before .before .before .loop .inv .2) (omega arith) (sym (c .before .before .is-set .ensures) ∙ c .before .if2 .taken) (c .if3 .taken)
 
 mul-at : tie.Need-mul-at Inv-loop μ-loop
 mul-at c = omega arith
@@ -42,7 +54,7 @@ loop-less c = omega arith
 loop-again : tie.Need-loop-again Inv-loop μ-loop
 loop-again c =
     let here = c .before .before .before .loop in
-    let w = places (c .before .before .before .before .args .line) in
+    let w = places (c .before .before .before .before .before .before .args .line) in
     let in-line : here .i < length w = omega arith in
     let bit = sym (c .before .is-set .ensures) in (
       omega arith,
@@ -50,18 +62,15 @@ loop-again c =
       ⊎-elim
           (λ t.
           relist w _ _ _ _ (t .3)
-          (⊎-elim
-          (λ v. relist-array w _ _ _ _ (t .2 ∙ v .1) (listing-kept w (here .at) (here .count) (here .i) (here .inv .2) in-line (bit ∙ t .0 .taken) (v .0 .taken)))
-          (λ v. relist-array w _ _ _ _ (t .2 ∙ v .1) (listing-full w (here .at) (here .count) (here .i) (here .inv .2) in-line (bit ∙ t .0 .taken) (v .0 .left)))
-          (t .1 .came)))
+          (relist-array w _ _ _ _ (t .2) (listing-kept w (here .at) (here .count) (here .i) (here .inv .2) in-line (bit ∙ t .0 .taken) (t .1 .left))))
           (λ t.
           relist w _ _ _ _ (t .2)
           (relist-array w _ _ _ _ (t .1) (listing-clear w (here .at) (here .count) (here .i) (here .inv .2) in-line (bit ∙ t .0 .left))))
-          (c .if1 .came),
+          (c .if2 .came),
     )
 
-returns : tie.Need-returns Inv-loop μ-loop
-returns c = listing-end (places (c .before .before .args .line)) _ _ _ (c .before .loop .inv .2) (omega arith)
+returns-3 : tie.Need-returns-3 Inv-loop μ-loop
+returns-3 c = listing-end (places (c .before .before .before .before .args .line)) _ _ _ (c .before .loop .inv .2) (omega arith)
 
 pub set-places-spec : {M : Type 1} → statement M
 set-places-spec =
@@ -69,12 +78,15 @@ set-places-spec =
     (tie.spec
     Inv-loop
     μ-loop
+    is-zero-requires
+    returns
     loop-holds
     is-set-requires
+    returns-2
     mul-at
     array-write-at
     add-count
     add-i
     loop-less
     loop-again
-    returns)
+    returns-3)

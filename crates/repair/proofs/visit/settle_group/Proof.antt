@@ -1,40 +1,35 @@
 -- `repair::visit::settle_group` meets its contract.
-use native.Mathlib.Omega.{arith}
 use borrow.Author.Needs.{needs}
-use mathlib.Core.Path.{_≡_, sym, ap, _∙_, subst}
-use mathlib.Core.List.{List}
-use Prim.Native.Nat.{ℕ, _<_}
-use lib.ListN.{length}
-use Rattle.linecode.proofs.Bytes.{array-length}
-use Rattle.repair.specs.Lent.{Holding}
-use Rattle.repair.proofs.Held.{held-faulty}
-use Rattle.repair.proofs.Settling.{lent-lines, below-marks, rebuilt-held, not-one}
+use native.Mathlib.Omega.{arith}
+use mathlib.Core.Path.{subst}
+use Rattle.repair.specs.Lent.{Carried}
+use Rattle.repair.proofs.Settling.{still-inside, only-inside, only-faulty, word-long, rebuilt-is, settled, unsettled}
 use Rattle.repair.proofs.visit.settle_group.Statement.{statement}
 use Rattle.repair.proofs.visit.settle_group.Tie as tie
 
-count-faulty-requires : tie.Need-count-faulty-requires
-count-faulty-requires c κs = search needs
+mul-if1 : tie.Need-mul-if1
+mul-if1 c = search needs
+
+slice-read-if1 : tie.Need-slice-read-if1
+slice-read-if1 c = search needs
 
 first-faulty-requires : tie.Need-first-faulty-requires
-first-faulty-requires c κs = search needs
+first-faulty-requires c κs = still-inside _ _ _ _ _ (c .before .before .before .before .before .before .before .pre .0 .room .rect .markBytes) (c .before .before .before .before .before .before .before .pre .1 .inside)
 
-sum-lines-requires : tie.Need-sum-lines-requires
-sum-lines-requires c κs = lent-lines _ _ _ _ _ (c .before .before .before .before .before .before .before .before .pre)
+line-at-requires : tie.Need-line-at-requires
+line-at-requires c κs =
+    omega (arith, c .before .before .before .before .before .before .before .before .before .pre .1 .listed, c .before .before .before .before .before .before .before .before .before .pre .0 .room .lackBytes, c .before .before .before .before .before .before .before .before .before .pre .0 .room .rect .rowsHigh, c .before .before .before .before .before .before .before .before .before .pre .0 .room .rect .columnsHigh)
+
+line-at-requires-2 : tie.Need-line-at-requires-2
+line-at-requires-2 c κs =
+    omega (arith, only-inside _ _ _ _ _ _ (c .before .before .before .before .before .before .before .before .before .before .before .pre .0 .room) _ _ _ _ (c .before .before .before .before .before .before .before .before .before .before .before .pre .1) (c .before .before .before .before .before .if1 .taken) _ (c .before .before .before .first-faulty .ensures) (c .before .before .before .before .before .before .before .before .before .before .before .pre .0 .held), c .before .before .before .before .before .before .before .before .before .before .before .pre .0 .room .rect .outBytes)
 
 xor-lines-requires : tie.Need-xor-lines-requires
 xor-lines-requires c κs = search needs
 
-line-at-requires : tie.Need-line-at-requires
-line-at-requires c κs = omega (arith, c .before .before .before .before .before .before .before .before .before .before .before .pre .room, below-marks _ _ _ _ _ _ _ (c .before .before .before .before .before .before .before .before .before .before .before .pre) (c .before .before .before .before .before .before .before .count-faulty .ensures) (c .before .before .before .before .before .before .if1 .taken) (c .before .before .before .before .first-faulty .ensures))
-
-xor-lines-requires-2 : tie.Need-xor-lines-requires-2
-xor-lines-requires-2 c κs = search needs
-
-put-line-requires : tie.Need-put-line-requires
-put-line-requires c κs = omega (arith, c .before .before .before .before .before .before .before .before .before .before .before .before .before .before .pre .room, below-marks _ _ _ _ _ _ _ (c .before .before .before .before .before .before .before .before .before .before .before .before .before .before .pre) (c .before .before .before .before .before .before .before .before .before .before .count-faulty .ensures) (c .before .before .before .before .before .before .before .before .before .if1 .taken) (c .before .before .before .before .before .before .before .first-faulty .ensures))
-
-slice-write-marks : tie.Need-slice-write-marks
-slice-write-marks c = below-marks _ _ _ _ _ _ _ (c .before .before .before .before .before .before .before .before .before .before .before .before .before .before .before .before .before .pre) (c .before .before .before .before .before .before .before .before .before .before .before .before .before .count-faulty .ensures) (c .before .before .before .before .before .before .before .before .before .before .before .before .if1 .taken) (c .before .before .before .before .before .before .before .before .before .before .first-faulty .ensures)
+mend-requires : tie.Need-mend-requires
+mend-requires c κs =
+    (c .before .before .before .before .before .before .before .before .before .before .before .before .before .before .before .before .before .pre .0, (only-inside _ _ _ _ _ _ (c .before .before .before .before .before .before .before .before .before .before .before .before .before .before .before .before .before .pre .0 .room) _ _ _ _ (c .before .before .before .before .before .before .before .before .before .before .before .before .before .before .before .before .before .pre .1) (c .before .before .before .before .before .before .before .before .before .before .before .if1 .taken) _ (c .before .before .before .before .before .before .before .before .before .first-faulty .ensures) (c .before .before .before .before .before .before .before .before .before .before .before .before .before .before .before .before .before .pre .0 .held), only-faulty _ _ _ _ _ _ (c .before .before .before .before .before .before .before .before .before .before .before .before .before .before .before .before .before .pre .0 .room) _ _ _ _ (c .before .before .before .before .before .before .before .before .before .before .before .before .before .before .before .before .before .pre .1) (c .before .before .before .before .before .before .before .before .before .before .before .if1 .taken) _ (c .before .before .before .before .before .before .before .before .before .first-faulty .ensures) (c .before .before .before .before .before .before .before .before .before .before .before .before .before .before .before .before .before .pre .0 .held), omega arith))
 
 same-length : tie.Need-same-length
 same-length c = search needs
@@ -42,37 +37,39 @@ same-length c = search needs
 same-length-2 : tie.Need-same-length-2
 same-length-2 c = search needs
 
-returns : tie.Need-returns
-returns c =
-    λ s h.
-    rebuilt-held _ _ _ _ _ (c .before .before .before .before .before .before .before .before .before .before .before .before .before .before .before .before .before .pre) (c .before .before .before .before .before .before .before .before .before .before .before .before .before .before .before .before .before .args .parity) (array-length 70 (c .before .before .before .before .before .before .before .before .before .before .before .before .before .before .before .before .before .args .parity) _ (c .before .before .before .before .before .before .before .before .before .before .before .before .before .before .before .before .before .good .1 .1 .0))
-    (sym (c .before .before .before .before .before .before .before .before .before .before .before .before .before .count-faulty .ensures) ∙ c .before .before .before .before .before .before .before .before .before .before .before .before .if1 .taken) (c .before .before .before .before .before .before .before .before .before .before .first-faulty .result) (c .before .before .before .before .before .before .before .before .before .before .first-faulty .ensures)
-    _ _ _ _ _ (c .before .before .before .before .before .before .before .before .sum-lines .ensures) (c .before .before .before .before .before .before .before .xor-lines .ensures) (c .before .before .before .before .before .line-at .ensures) (c .before .before .before .before .xor-lines2 .ensures) (c .before .before .put-line .ensures) s h
-
 same-length-3 : tie.Need-same-length-3
 same-length-3 c = search needs
 
+same-length-4 : tie.Need-same-length-4
+same-length-4 c = search needs
+
+returns : tie.Need-returns
+returns c =
+    λ parity s carried.
+    subst (Carried _ _ parity _ _ _ _)
+    (settled _ _ _ _ _ _ (c .before .before .before .before .before .before .before .before .before .before .before .before .before .before .before .before .before .before .before .before .before .before .before .before .before .before .pre .0 .room) _ _ _ _ (c .before .before .before .before .before .before .before .before .before .before .before .before .before .before .before .before .before .before .before .before .before .before .before .before .before .before .pre .1) (c .before .before .before .before .before .before .before .before .before .before .before .before .before .before .before .before .before .before .before .before .if1 .taken) _ (c .before .before .before .before .before .before .before .before .before .before .before .before .before .before .before .before .before .before .first-faulty .ensures) parity s carried _ _ _ (c .before .before .before .before .before .before .before .before .before .before .before .before .before .before .before .before .line-at .ensures) (c .before .before .before .before .before .before .before .before .before .before .before .before .before .before .line-at2 .ensures) (c .before .before .before .before .before .before .before .before .before .before .before .before .before .xor-lines .ensures))
+    (c .before .before .before .before .before .before .before .before .mend .ensures parity s _ carried
+    (word-long _ _ _ _ _ _ (c .before .before .before .before .before .before .before .before .before .before .before .before .before .before .before .before .before .before .before .before .before .before .before .before .before .before .pre .0 .room) _ _ _ _ (c .before .before .before .before .before .before .before .before .before .before .before .before .before .before .before .before .before .before .before .before .before .before .before .before .before .before .pre .1) (c .before .before .before .before .before .before .before .before .before .before .before .before .before .before .before .before .before .before .before .before .if1 .taken) _ (c .before .before .before .before .before .before .before .before .before .before .before .before .before .before .before .before .before .before .first-faulty .ensures) parity s carried _ _ _ (c .before .before .before .before .before .before .before .before .before .before .before .before .before .before .before .before .line-at .ensures) (c .before .before .before .before .before .before .before .before .before .before .before .before .before .before .line-at2 .ensures) (c .before .before .before .before .before .before .before .before .before .before .before .before .before .xor-lines .ensures))
+    (rebuilt-is _ _ _ _ _ _ (c .before .before .before .before .before .before .before .before .before .before .before .before .before .before .before .before .before .before .before .before .before .before .before .before .before .before .pre .0 .room) _ _ _ _ (c .before .before .before .before .before .before .before .before .before .before .before .before .before .before .before .before .before .before .before .before .before .before .before .before .before .before .pre .1) (c .before .before .before .before .before .before .before .before .before .before .before .before .before .before .before .before .before .before .before .before .if1 .taken) _ (c .before .before .before .before .before .before .before .before .before .before .before .before .before .before .before .before .before .before .first-faulty .ensures) parity s carried _ _ _ (c .before .before .before .before .before .before .before .before .before .before .before .before .before .before .before .before .line-at .ensures) (c .before .before .before .before .before .before .before .before .before .before .before .before .before .before .line-at2 .ensures) (c .before .before .before .before .before .before .before .before .before .before .before .before .before .xor-lines .ensures)))
+
 returns-2 : tie.Need-returns-2
 returns-2 c =
-    λ s h.
-    subst (Holding _ _)
-    (sym (not-one _ s (λ e. c .if1 .left (c .before .count-faulty .ensures ∙ ap length (held-faulty _ _ s h _) ∙ e))))
-    h
+    λ parity s carried. unsettled _ _ _ _ _ _ (c .before .before .before .before .before .before .pre .0 .room) _ _ _ _ (c .before .before .before .before .before .before .pre .1) parity s carried (c .if1 .left)
 
 pub settle-group-spec : {M : Type 1} → statement M
 settle-group-spec =
     tie.close
     (tie.spec
-    count-faulty-requires
+    mul-if1
+    slice-read-if1
     first-faulty-requires
-    sum-lines-requires
-    xor-lines-requires
     line-at-requires
-    xor-lines-requires-2
-    put-line-requires
-    slice-write-marks
+    line-at-requires-2
+    xor-lines-requires
+    mend-requires
     same-length
     same-length-2
-    returns
     same-length-3
+    same-length-4
+    returns
     returns-2)

@@ -1,0 +1,129 @@
+-- What repair starts from, and what it hands over.
+use mathlib.Core.Path.{_≡_, refl, sym, ap, ap₂, _∙_}
+use mathlib.Core.List.{List, [], _∷_}
+use Prim.Native.Nat.{ℕ, _+_, _*_, _≤_, _<_}
+use native.Mathlib.Omega.{arith}
+use lib.ListN.{length, getD, replicate, length-replicate, getD-replicate}
+use Rattle.gf2.specs.Word.{Word, _⊕_}
+use Rattle.linecode.specs.Places.{linePlaces, lineOf}
+use Rattle.linecode.proofs.Line.{bytes-is}
+use Rattle.scheme.specs.Layer.{readLine}
+use Rattle.scheme.specs.Visit.{Group, State, lineAt, faultyOf, sum}
+use Rattle.scheme.specs.Repair.{readAll, passesFrom, repair, linesOf, marksOf, answer}
+use Rattle.rectangle.specs.Store.{lineLayer, placesAt, bytesAt, linesIn, bufferOf, groups}
+use Rattle.rectangle.specs.Refusals.{repairRefusal}
+use Rattle.rectangle.specs.Repair.{repaired, handedOver, StoreRepaired, repairStore}
+use Rattle.rectangle.proofs.Buffer.{length-placesAt}
+use Rattle.rectangle.proofs.Runs.{repair-runs, repair-refused}
+use Rattle.repair.specs.Lent.{Beside, Tracked, Carried, RanPasses, Rectangular, Room, membersOf, parityOf, groupOf, allGroups}
+use Rattle.repair.proofs.Numbers.{by-number, row-parity, column-parity, all-groups}
+use Rattle.repair.proofs.Held.{held-count}
+
+-- ---- no line is read yet
+no-sum : (ns : List ℕ) → sum (lineAt []) ns ≡ []
+no-sum [] = refl
+no-sum (n ∷ ns) = no-sum ns
+
+no-faulty : (ns : List ℕ) → length (faultyOf [] ns) ≡ 0
+no-faulty [] = refl
+no-faulty (n ∷ ns) = no-faulty ns
+
+pub zero-bytes-long : length (replicate {A = ℕ} 71680 0) ≡ 71680
+zero-bytes-long = length-replicate {A = ℕ} 71680 0
+
+pub zero-counts-long : length (replicate {A = ℕ} 1024 0) ≡ 1024
+zero-counts-long = length-replicate {A = ℕ} 1024 0
+
+pub started : (rows columns : ℕ) (rt ct mid lacks : List ℕ) → rows ≤ 512 → columns ≤ 512 → length rt ≡ rows * 70 → length ct ≡ columns * 70
+    → ((k : ℕ) → k < rows → bytesAt mid k ≡ lineOf (placesAt rt k)) → ((k : ℕ) → k < rows → bytesAt lacks k ≡ bytesAt mid k)
+    → ((k : ℕ) → k < columns → bytesAt lacks (rows + k) ≡ lineOf (placesAt ct k))
+    → Tracked rows columns (parityOf rows rt ct) lacks (replicate 1024 0) []
+started rows columns rt ct mid lacks rh ch re ce laid kept after =
+    by-number rows columns
+    (λ k. Beside (groupOf rows columns (parityOf rows rt ct) k) [] (bytesAt lacks k) (getD (replicate 1024 0) k 0))
+    (λ r h.
+    first r (omega arith) (placesAt rt r) (row-parity rows rt ct r h)
+    (length-placesAt rows rt (re ∙ ap (λ (i : ℕ). rows * i) (sym bytes-is)) r h) (kept r h ∙ laid r h))
+    (λ c h.
+    first (rows + c) (omega arith) (placesAt ct c) (column-parity rows rt ct c)
+    (length-placesAt columns ct (ce ∙ ap (λ (i : ℕ). columns * i) (sym bytes-is)) c h) (after c h))
+  where
+    first : (k : ℕ) → k < 1024 → (w : Word) → parityOf rows rt ct k ≡ w → length w ≡ linePlaces → bytesAt lacks k ≡ lineOf w
+        → Beside (groupOf rows columns (parityOf rows rt ct) k) [] (bytesAt lacks k) (getD (replicate 1024 0) k 0)
+    first k h w p long e =
+        record {
+          wide = ap length p ∙ long;
+          long = ap length whole ∙ long;
+          lack = e ∙ ap lineOf (sym whole);
+          number = getD-replicate 1024 k 0 0 h ∙ sym (no-faulty (membersOf rows columns k));
+        }
+      where
+        whole : sum (lineAt []) (membersOf rows columns k) ⊕ parityOf rows rt ct k ≡ w
+        whole = ap₂ _⊕_ (no-sum (membersOf rows columns k)) p
+
+pub room-for : (rows columns : ℕ) (out marks out′ marks′ lacks faulty : List ℕ) → Rectangular rows columns out marks → length out′ ≡ length out
+    → length marks′ ≡ length marks → length lacks ≡ 71680 → length faulty ≡ 1024 → Room rows columns out′ marks′ lacks faulty
+room-for rows columns out marks out′ marks′ lacks faulty r e f g h =
+    record {
+      rect =
+          record {
+            rowsLow = r .rowsLow;
+            rowsHigh = r .rowsHigh;
+            columnsLow = r .columnsLow;
+            columnsHigh = r .columnsHigh;
+            outBytes = e ∙ r .outBytes;
+            markBytes = f ∙ r .markBytes;
+          };
+      lackBytes = g;
+      counts = h;
+    }
+
+-- ---- what repair hands over
+pub handed : (rows columns : ℕ) (lines rt ct out₀ marks₀ out₁ marks₁ lacks₁ faulty₁ out marks lacks faulty : List ℕ) (answered passes : ℕ)
+    → repairRefusal rows columns lines rt ct out₀ marks₀ ≡ 0
+    → Carried rows columns (parityOf rows rt ct) out₁ marks₁ lacks₁ faulty₁ (readAll (readLine lineLayer) 0 (linesIn (rows * columns) lines))
+    → RanPasses rows columns out₁ marks₁ lacks₁ faulty₁ out marks lacks faulty passes → length marks ≡ rows * columns
+    → ((parity : ℕ → Word) (s : State) → length s ≡ rows * columns → Tracked rows columns parity lacks faulty s
+    → answered ≡ answer (allGroups rows columns parity) s)
+    → _≡_ {A = StoreRepaired} (record { answer = answered; passes = passes; lines = out; marks = marks })
+    (repairStore rows columns lines rt ct out₀ marks₀)
+unfolding repaired handedOver repair
+handed rows columns lines rt ct out₀ marks₀ out₁ marks₁ lacks₁ faulty₁ out marks lacks faulty answered passes e h r m a =
+    assemble (groups rows columns rt ct) (sym (all-groups rows columns rt ct)) answered passes out marks
+    (a parity t (sym (held-count out marks t (last .held)) ∙ m) (last .beside)) (r .passes parity s h) (last .held .lines) (last .held .marked)
+    ∙ sym (repair-runs rows columns lines rt ct out₀ marks₀ 0 e refl)
+  where
+    parity : ℕ → Word
+    parity = parityOf rows rt ct
+
+    s : State
+    s = readAll (readLine lineLayer) 0 (linesIn (rows * columns) lines)
+
+    t : State
+    t = passesFrom (readLine lineLayer) (allGroups rows columns parity) s .cells
+
+    last : Carried rows columns parity out marks lacks faulty t
+    last = r .cells parity s h
+
+    Hands : List Group → StoreRepaired
+    Hands gs =
+        record {
+          answer = answer gs (passesFrom (readLine lineLayer) gs s .cells);
+          passes = passesFrom (readLine lineLayer) gs s .passes;
+          lines = bufferOf (linesOf (passesFrom (readLine lineLayer) gs s .cells));
+          marks = marksOf (passesFrom (readLine lineLayer) gs s .cells);
+        }
+
+    assemble : (gs : List Group) → gs ≡ allGroups rows columns parity → (x n : ℕ) (o v : List ℕ) → x ≡ answer (allGroups rows columns parity) t
+        → n ≡ passesFrom (readLine lineLayer) (allGroups rows columns parity) s .passes → o ≡ bufferOf (linesOf t) → v ≡ marksOf t
+        → _≡_ {A = StoreRepaired} (record { answer = x; passes = n; lines = o; marks = v }) (Hands gs)
+    assemble gs q x n o v p u y z = all-four x _ n _ o _ v _ p u y z ∙ ap Hands (sym q)
+      where
+        all-four : (a a′ b b′ : ℕ) (c c′ d d′ : List ℕ) → a ≡ a′ → b ≡ b′ → c ≡ c′ → d ≡ d′
+            → _≡_ {A = StoreRepaired} (record { answer = a; passes = b; lines = c; marks = d }) (record { answer = a′; passes = b′; lines = c′; marks = d′ })
+        all-four a a′ b b′ c c′ d d′ i j k l = cc
+
+pub refused-whole : (rows columns : ℕ) (lines rt ct out marks : List ℕ) (r : ℕ) → r ≡ repairRefusal rows columns lines rt ct out marks
+    → (r ≡ 0 → ⊥) → _≡_ {A = StoreRepaired} (record { answer = r; passes = 0; lines = out; marks = marks })
+    (repairStore rows columns lines rt ct out marks)
+refused-whole rows columns lines rt ct out marks r e d = sym (repair-refused rows columns lines rt ct out marks r (sym e) d)

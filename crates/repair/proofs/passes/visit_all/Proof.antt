@@ -1,0 +1,100 @@
+-- `repair::passes::visit_all` meets its contract: after k turns the first k groups are visited.
+use native.Mathlib.Omega.{arith}
+use mathlib.Core.Path.{_≡_, refl, sym, _∙_}
+use mathlib.Core.Logic.{⊎-elim}
+use Prim.Native.Nat.{_+_, _-_}
+use Rattle.repair.proofs.Numbers.{renumber}
+use Rattle.repair.proofs.Trying.{same-room}
+use Rattle.repair.proofs.Passing.{Passing, passing-start, passing-some, passing-next, passing-idle, passing-end, repass}
+use Rattle.repair.proofs.passes.visit_all.Statement.{statement}
+use Rattle.repair.proofs.passes.visit_all.Tie as tie
+
+abbrev Inv-loop : tie.InvT-loop
+Inv-loop slices out₀ marks₀ lacks₀ faulty₀ rows columns groups k₀ out marks lacks faulty k =
+    (groups ≡ rows + columns) × Passing rows columns out₀ marks₀ lacks₀ faulty₀ out marks lacks faulty k
+
+abbrev μ-loop : tie.MeasureT-loop
+μ-loop slices out₀ marks₀ lacks₀ faulty₀ rows columns groups k₀ out marks lacks faulty k = groups - k
+
+add-groups : tie.Need-add-groups Inv-loop μ-loop
+add-groups c = omega (arith, c .before .before .before .before .pre .1 .room .rect .rowsHigh, c .before .before .before .before .pre .1 .room .rect .columnsHigh)
+
+loop-holds : tie.Need-loop-holds Inv-loop μ-loop
+loop-holds c = (refl, passing-start _ _ _ _ _ _ (c .before .before .before .before .pre .1 .room))
+
+mul-if1 : tie.Need-mul-if1 Inv-loop μ-loop
+mul-if1 c =
+    omega (arith, c .before .loop .inv .0, c .before .before .before .before .before .before .pre .1 .room .rect .rowsHigh, c .before .before .before .before .before .before .pre .1 .room .rect .columnsHigh)
+
+slice-read-if1 : tie.Need-slice-read-if1 Inv-loop μ-loop
+slice-read-if1 c =
+    omega (arith, c .before .before .loop .inv .0, c .before .before .loop .inv .1 .room .counts, c .before .before .before .before .before .before .before .pre .1 .room .rect .rowsHigh, c .before .before .before .before .before .before .before .pre .1 .room .rect .columnsHigh)
+
+choose-requires : tie.Need-choose-requires Inv-loop μ-loop
+choose-requires c κs =
+    (c .before .before .before .before .before .before .before .before .pre .1 .room .rect .rowsLow, c .before .before .before .before .before .before .before .before .pre .1 .room .rect .rowsHigh, c .before .before .before .before .before .before .before .before .pre .1 .room .rect .columnsLow, c .before .before .before .before .before .before .before .before .pre .1 .room .rect .columnsHigh, omega (arith, c .before .before .before .loop .inv .0, c .before .before .loop-test .taken))
+
+visit-group-requires : tie.Need-visit-group-requires Inv-loop μ-loop
+visit-group-requires c κs = (
+  c .before .before .before .before .before .before .before .before .before .before .before .before .before .pre .0,
+  (record { room = c .before .before .before .before .before .before .before .before .loop .inv .1 .room; held = passing-some _ _ _ _ _ _ _ _ _ _ _ (c .before .before .before .before .before .before .before .before .loop .inv .1) (c .before .before .before .before .before .before .before .before .before .before .before .before .before .pre .1 .held) }, renumber _ _ _ _ _ _ _ (c .before .before .before .before .choose .ensures .0) (c .before .before .before .before .choose .ensures .1)),
+)
+
+add-k : tie.Need-add-k Inv-loop μ-loop
+add-k c = omega arith
+
+loop-less : tie.Need-loop-less Inv-loop μ-loop
+loop-less c = omega arith
+
+loop-again : tie.Need-loop-again Inv-loop μ-loop
+loop-again c =
+    let here = c .before .before .before .loop in (
+      here .inv .0,
+      ⊎-elim
+          (λ w.
+          repass _ _ _ _ _ _ _ _ _ _ _ _ _ _ _ (w .15) (w .16) (w .17) (w .18)
+          (passing-next _ _ _ _ _ _ _ _ _ _ (here .k) (here .inv .1) _ _ _ _ _ (omega (arith, here .inv .0, c .before .before .loop-test .taken)) (w .1 .ensures .0)
+          (same-room _ _ _ _ _ _ _ _ _ _ (here .inv .1 .room) (w .6 .kept .1 .0) (w .6 .kept .1 .1 .0) (w .6 .kept .1 .1 .1 .0) (w .6 .kept .1 .1 .1 .1 .0))
+          (w .6 .ensures)))
+          (λ w.
+          repass _ _ _ _ _ _ _ _ _ _ _ _ _ _ _ (w .1) (w .2) (w .3) (w .4)
+          (passing-idle _ _ _ _ _ _ _ _ _ _ (here .k) (here .inv .1) (omega (arith, here .inv .0, c .before .before .loop-test .taken)) (w .0 .left)))
+          (c .if1 .came),
+    )
+
+same-length : tie.Need-same-length Inv-loop μ-loop
+same-length c = c .before .loop .inv .1 .room .rect .outBytes ∙ sym (c .before .before .before .before .before .before .pre .1 .room .rect .outBytes)
+
+same-length-2 : tie.Need-same-length-2 Inv-loop μ-loop
+same-length-2 c = c .before .loop .inv .1 .room .rect .markBytes ∙ sym (c .before .before .before .before .before .before .pre .1 .room .rect .markBytes)
+
+same-length-3 : tie.Need-same-length-3 Inv-loop μ-loop
+same-length-3 c = c .before .loop .inv .1 .room .lackBytes ∙ sym (c .before .before .before .before .before .before .pre .1 .room .lackBytes)
+
+same-length-4 : tie.Need-same-length-4 Inv-loop μ-loop
+same-length-4 c = c .before .loop .inv .1 .room .counts ∙ sym (c .before .before .before .before .before .before .pre .1 .room .counts)
+
+returns : tie.Need-returns Inv-loop μ-loop
+returns c =
+    passing-end _ _ _ _ _ _ _ _ _ _ _ (c .before .loop .inv .1) (omega (arith, c .before .loop .inv .0, c .loop-test .left))
+
+pub visit-all-spec : {M : Type 1} → statement M
+visit-all-spec =
+    tie.close
+    (tie.spec
+    Inv-loop
+    μ-loop
+    add-groups
+    loop-holds
+    mul-if1
+    slice-read-if1
+    choose-requires
+    visit-group-requires
+    add-k
+    loop-less
+    loop-again
+    same-length
+    same-length-2
+    same-length-3
+    same-length-4
+    returns)
