@@ -38,7 +38,7 @@ module _ (xor and : ℕ → ℕ → ℕ) where
       (and (low / 2 ^ 12) 0xf00000))
       (high * 2 ^ 24 % 2 ^ 64)
 
-  -- the numbers of the set bits of a word, and the bits above them
+  -- the nibbles of bits 6 to 9, and those of bits 0 to 5 before they are side by side
   unfoldable pub highBy : ℕ → ℕ → ℕ → ℕ → ℕ
   highBy b6 b7 b8 b9 =
       foldedBy 24 0xffff (foldedBy 12 0xff000000ff (foldedBy 4 0x000f000f000f000f (foldedBy 8 0x00ff00ff00ff00ff
@@ -342,16 +342,17 @@ module _ (ds : List ℕ) (eight : length ds ≡ 8) (words : Words ds) (n : ℕ) 
       (omega (arith, eight, length-append positions (0 ∷ []), length-positions)) words l
       ∙ sum-zero positions (joined ds (digits 32 n))
 
--- ---- a step of the code is its form
-pub folded-is : (by mask x r : ℕ) → r ≡ bitAnd (bitXor x (x / 2 ^ by)) mask → r ≡ foldedForm by mask x
+-- ---- a step of the code, from what is known of its words
+pub folded-step : (by mask : ℕ) {x y r : ℕ} → x ≡ y → r ≡ bitAnd (bitXor x (x / 2 ^ by)) mask → r ≡ foldedForm by mask y
 unfolding foldedBy
-folded-is by mask x r e = e
+folded-step by mask e f = f ∙ ap (foldedForm by mask) e
 
-pub added-is : (by mask x r : ℕ) → r ≡ bitXor x (bitAnd (x / 2 ^ by) mask) → r ≡ addedForm by mask x
+pub added-step : (by mask : ℕ) {x y r : ℕ} → x ≡ y → r ≡ bitXor x (bitAnd (x / 2 ^ by) mask) → r ≡ addedForm by mask y
 unfolding addedBy
-added-is by mask x r e = e
+added-step by mask e f = f ∙ ap (addedForm by mask) e
 
-pub paired-is : (by low high a b r : ℕ)
-    → r ≡ bitXor (bitAnd (bitXor a (a / 2 ^ by)) low) (bitAnd (bitXor b (b * 2 ^ by % 2 ^ 64)) high) → r ≡ pairedForm by low high a b
+pub paired-step : (by low high : ℕ) {a b x y r : ℕ} → a ≡ x → b ≡ y
+    → r ≡ bitXor (bitAnd (bitXor a (a / 2 ^ by)) low) (bitAnd (bitXor b (b * 2 ^ by % 2 ^ 64)) high)
+    → r ≡ pairedForm by low high x y
 unfolding pairedBy
-paired-is by low high a b r e = e
+paired-step by low high e f g = g ∙ ap₂ (pairedForm by low high) e f

@@ -7,6 +7,7 @@ ghost use mathlib.Core.Path.{_≡_};
 ghost use mathlib.Core.Bool.{false};
 ghost use Rattle.linecode.specs.Places.{places, lineOf};
 ghost use Rattle.linecode.specs.Code.{dataOf, codeword, accepted, isCorrect};
+ghost use Rattle.linecode.specs.Reading.{afterCorrector, readAlone};
 ghost use Rattle.linecode.specs.Entry.{written, reading};
 ghost use Rattle.register.specs.Slices.{sliceTable};
 
@@ -30,21 +31,30 @@ pub fn write_line(payload: [u8; 64]) -> [u8; 70]
     rewrite(place::load(&payload))
 }
 
+// The protected place whose flip makes a line's word divisible, as the corrector finds it, or 543. A number, so that where a line is
+// read nothing of a hurt line stands in the way of a clean one.
+fn flip_of(line: [u8; 70]) -> usize
+    requires { ⌜ accepted (places line) ≡ false ⌝ }
+    ensures { λ i. ⌜ readAlone (places line) ≡ afterCorrector i (places line) ⌝ }
+{
+    let Answer::Protected(i) = hamming::answer_to(hamming::syndrome_of(line)) else {
+        return 543;
+    };
+    if crc::agrees(place::flip_place(line, i)) {
+        return i;
+    }
+    543
+}
+
 // A line whose protected word is not divisible, read alone: the corrector, then the CRC compared once more.
 fn read_hurt(line: [u8; 70]) -> Reading
     requires { ⌜ accepted (places line) ≡ false ⌝ }
     ensures { λ r. ⌜ r ≡ reading line ⌝ }
 {
-    let Answer::Protected(i) = hamming::answer_to(hamming::syndrome_of(line)) else {
+    let i = flip_of(line);
+    if i < 543 {
         return Reading {
-            line: place::clear_spare(line),
-            mark: 4,
-        };
-    };
-    let flipped = place::flip_place(line, i);
-    if crc::agrees(flipped) {
-        return Reading {
-            line: hamming::append(flipped),
+            line: hamming::append(place::flip_place(line, i)),
             mark: 1,
         };
     }

@@ -564,7 +564,7 @@ pub enum Answer {
     Protected(usize),
 }
 
-// The position of protected place i, 0 past the last.
+// The position of protected place i, by the table; 0 past the last. The sum of positions goes by whole words instead.
 pub fn position(i: usize) -> u16
     ensures { λ r. ⌜ r ≡ getD positions i 0 ⌝ }
 {

@@ -1,8 +1,7 @@
 -- `linecode::hamming::number_sum` meets its contract. Each call is a step of the form, and the form is the sum.
-use native.Mathlib.Omega.{arith}
 use borrow.Author.Needs.{needs}
-use mathlib.Core.Path.{_≡_, ap, ap₂, _∙_}
-use Rattle.linecode.proofs.WordSums.{foldedForm, addedForm, pairedForm, nibblesForm, highForm, lowForm, nibblesBy, highBy, lowBy, sumBy, folded-is, added-is, paired-is, sum-words}
+use mathlib.Core.Path.{refl, ap₂, _∙_}
+use Rattle.linecode.proofs.WordSums.{nibblesForm, nibblesBy, highBy, lowBy, sumBy, folded-step, added-step, paired-step, sum-words}
 use Rattle.linecode.proofs.hamming.number_sum.Statement.{statement}
 use Rattle.linecode.proofs.hamming.number_sum.Tie as tie
 
@@ -79,39 +78,17 @@ returns c =
     let start = at-paired .before in
     let q = start .args in
     let f = start .fits in
-    let high : at-folded4 .folded4 .result ≡ highForm (q .b6) (q .b7) (q .b8) (q .b9) =
-    folded-is 24 0xffff (at-folded3 .folded3 .result) (at-folded4 .folded4 .result) (at-folded4 .folded4 .ensures)
-    ∙ ap (foldedForm 24 0xffff)
-    (folded-is 12 0xff000000ff (at-folded2 .folded2 .result) (at-folded3 .folded3 .result) (at-folded3 .folded3 .ensures)
-    ∙ ap (foldedForm 12 0xff000000ff)
-    (folded-is 4 0x000f000f000f000f (at-folded .folded .result) (at-folded2 .folded2 .result) (at-folded2 .folded2 .ensures)
-    ∙ ap (foldedForm 4 0x000f000f000f000f)
-    (folded-is 8 0x00ff00ff00ff00ff (at-paired3 .paired3 .result) (at-folded .folded .result) (at-folded .folded .ensures)
-    ∙ ap (foldedForm 8 0x00ff00ff00ff00ff)
-    (paired-is 16 0x0000ffff0000ffff 0xffff0000ffff0000 (at-paired .paired .result) (at-paired2 .paired2 .result) (at-paired3 .paired3 .result) (at-paired3 .paired3 .ensures)
-    ∙ ap₂ (pairedForm 16 0x0000ffff0000ffff 0xffff0000ffff0000)
-    (paired-is 32 0xffffffff 0xffffffff00000000 _ _ (at-paired .paired .result) (at-paired .paired .ensures))
-    (paired-is 32 0xffffffff 0xffffffff00000000 _ _ (at-paired2 .paired2 .result) (at-paired2 .paired2 .ensures)))))) in
-    let low : at-added4 .added4 .result ≡ lowForm (q .all) =
-    added-is 4 0x0f0f0f0f0f (at-added3 .added3 .result) (at-added4 .added4 .result) (at-added4 .added4 .ensures)
-    ∙ ap (addedForm 4 0x0f0f0f0f0f)
-    (added-is 8 0x00ff00ff00ff00ff (at-added2 .added2 .result) (at-added3 .added3 .result) (at-added3 .added3 .ensures)
-    ∙ ap (addedForm 8 0x00ff00ff00ff00ff)
-    (added-is 16 0x0000ffff0000ffff (at-added .added .result) (at-added2 .added2 .result) (at-added2 .added2 .ensures)
-    ∙ ap (addedForm 16 0x0000ffff0000ffff)
-    (added-is 32 0xffffffff _ (at-added .added .result) (at-added .added .ensures)))) in
-    folded-is 24 0x3ff (at-folded9 .folded9 .result) (c .folded10 .result) (c .folded10 .ensures)
-    ∙ ap (foldedForm 24 0x3ff)
-    (folded-is 12 0x3000000ff (at-folded8 .folded8 .result) (at-folded9 .folded9 .result) (at-folded9 .folded9 .ensures)
-    ∙ ap (foldedForm 12 0x3000000ff)
-    (folded-is 6 0x3000f000f (at-folded7 .folded7 .result) (at-folded8 .folded8 .result) (at-folded8 .folded8 .ensures)
-    ∙ ap (foldedForm 6 0x3000f000f)
-    (folded-is 3 0x0303030303 (at-folded6 .folded6 .result) (at-folded7 .folded7 .result) (at-folded7 .folded7 .ensures)
-    ∙ ap (foldedForm 3 0x0303030303)
-    (folded-is 1 0x1111111111 (at-folded5 .folded5 .result) (at-folded6 .folded6 .result) (at-folded6 .folded6 .ensures)
-    ∙ ap (foldedForm 1 0x1111111111)
-    (folded-is 2 0x3333333333 (nibblesForm (at-added4 .added4 .result) (at-folded4 .folded4 .result)) (at-folded5 .folded5 .result) (at-folded5 .folded5 .ensures)
-    ∙ ap (foldedForm 2 0x3333333333) (ap₂ nibblesForm low high))))))
+    let x = paired-step 32 0xffffffff 0xffffffff00000000 (refl {a = q .b6}) (refl {a = q .b8}) (at-paired .paired .ensures) in
+    let y = paired-step 32 0xffffffff 0xffffffff00000000 (refl {a = q .b7}) (refl {a = q .b9}) (at-paired2 .paired2 .ensures) in
+    let z = paired-step 16 0x0000ffff0000ffff 0xffff0000ffff0000 x y (at-paired3 .paired3 .ensures) in
+    let nibbles = folded-step 4 0x000f000f000f000f (folded-step 8 0x00ff00ff00ff00ff z (at-folded .folded .ensures)) (at-folded2 .folded2 .ensures) in
+    let high = folded-step 24 0xffff (folded-step 12 0xff000000ff nibbles (at-folded3 .folded3 .ensures)) (at-folded4 .folded4 .ensures) in
+    let s = added-step 16 0x0000ffff0000ffff (added-step 32 0xffffffff (refl {a = q .all}) (at-added .added .ensures)) (at-added2 .added2 .ensures) in
+    let low = added-step 4 0x0f0f0f0f0f (added-step 8 0x00ff00ff00ff00ff s (at-added3 .added3 .ensures)) (at-added4 .added4 .ensures) in
+    let n = ap₂ nibblesForm low high in
+    let parities = folded-step 1 0x1111111111 (folded-step 2 0x3333333333 n (at-folded5 .folded5 .ensures)) (at-folded6 .folded6 .ensures) in
+    let fives = folded-step 6 0x3000f000f (folded-step 3 0x0303030303 parities (at-folded7 .folded7 .ensures)) (at-folded8 .folded8 .ensures) in
+    folded-step 24 0x3ff (folded-step 12 0x3000000ff fives (at-folded9 .folded9 .ensures)) (c .folded10 .ensures)
     ∙ sum-words (q .all) (q .b6) (q .b7) (q .b8) (q .b9)
     (f .all .fits, (f .b6 .fits, (f .b7 .fits, (f .b8 .fits, tt)))) (f .b9 .fits)
 

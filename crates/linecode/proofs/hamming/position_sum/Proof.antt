@@ -2,10 +2,10 @@
 use native.Mathlib.Omega.{arith}
 use borrow.Author.Needs.{needs}
 use mathlib.Core.Path.{_≡_, ap, _∙_}
-use Rattle.linecode.specs.Code.{positions}
 use Prim.Native.Nat.{ℕ, _<_}
 use Rattle.gf2.specs.Word.{Word}
 use Rattle.gf2.specs.Check.{columnSum}
+use Rattle.linecode.specs.Code.{positions}
 use Rattle.linecode.proofs.Bytes.{array-length}
 use Rattle.linecode.proofs.Positions.{length-positions, position-sum-lt}
 use Rattle.linecode.proofs.WordBytes.{last-half, word-before, protected-sum}
