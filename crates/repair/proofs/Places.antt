@@ -2,13 +2,18 @@
 use mathlib.Core.Path.{_≡_, refl, sym, ap, _∙_, subst}
 use mathlib.Core.Bool.{Bool, true, false}
 use mathlib.Core.List.{List, [], _∷_, _++_, append-nil, append-assoc}
-use Prim.Native.Nat.{ℕ, suc, _+_, _≤_, _<_}
+use Prim.Native.Nat.{ℕ, zero, suc, _+_, _-_, _/_, _%_, _≤_, _<_}
+use native.Mathlib.Nat.{div-eq-of-lt}
+use lib.Pow.{pow-pos}
 use native.Mathlib.Numerals.{add-one}
 use native.Mathlib.Omega.{arith}
+use lib.Dec.{eqb}
 use lib.ListN.{length, take, drop, getD, set, replicate, length-append, length-set, drop-of-length-le}
 use lib.Seq.{drop-cons, take-suc-set}
 use Rattle.gf2.specs.Word.{Word}
+use Rattle.gf2.specs.Check.{bit}
 use Rattle.linecode.specs.Places.{places}
+use Rattle.linecode.proofs.Line.{protected-place, protected-bit}
 use Rattle.scheme.specs.Visit.{setPlaces}
 use Rattle.repair.specs.Lent.{Listed, allZero}
 use Rattle.repair.proofs.Added.{zero-no-places}
@@ -90,6 +95,33 @@ module _ (w : Word) (array : List ℕ) (count i : ℕ) (l : Listing w array coun
             ∙ ap (λ (p : List ℕ). l .found ++ p)
             (next ∙ ap (λ (b : Bool). setPlaces i (b ∷ drop (suc i) w)) e ∙ ap (λ (j : ℕ). setPlaces j (drop j w)) (sym (add-one i)));
       }
+
+-- places that are not set are passed over
+pub listing-past : (w : Word) (array : List ℕ) (count i r : ℕ) → Listing w array count i → i ≤ r → r ≤ length w
+    → ((k : ℕ) → i ≤ k → k < r → getD w k false ≡ false) → Listing w array count r
+listing-past w array count i r l h e f = go (r - i) i l (omega arith) f
+  where
+    go : (m j : ℕ) → Listing w array count j → j + m ≡ r → ((k : ℕ) → j ≤ k → k < r → getD w k false ≡ false) → Listing w array count r
+    go zero j a p q = subst (Listing w array count) (last j p) a
+      where
+        last : (j : ℕ) → j + 0 ≡ r → j ≡ r
+        last j p = omega arith
+    go (suc m) j a p q =
+        go m (j + 1) (listing-clear w array count j a (omega arith) (q j (omega arith) (omega arith))) (omega arith) (λ k x y. q k (omega arith) y)
+
+-- a byte of zeros has no set place
+bit-zero : (k : ℕ) → bit k 0 ≡ false
+bit-zero k = ap (λ (n : ℕ). eqb (n % 2) 1) (div-eq-of-lt (pow-pos k))
+
+pub byte-past : (line : List ℕ) → length line ≡ 70 → (i : ℕ) → i < 536 → i % 8 ≡ 0 → getD line (i / 8) 0 ≡ 0
+    → (k : ℕ) → i < k → k < i + 8 → getD (places line) k false ≡ false
+byte-past line e i h m z k a b =
+    let low : k < 543 = omega arith in
+    let same : k / 8 ≡ i / 8 = omega arith in
+    protected-place line e k low
+    ∙ protected-bit line e k low
+    ∙ ap (bit (k % 8)) (ap (λ (x : ℕ). getD line x 0) same ∙ z)
+    ∙ bit-zero (k % 8)
 
 pub listing-end : (w : Word) (array : List ℕ) (count i : ℕ) → Listing w array count i → length w ≤ i → Listed (setPlaces 0 w) count array
 listing-end w array count i l h =

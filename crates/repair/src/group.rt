@@ -1,7 +1,8 @@
 // The groups of a rectangle in visiting order, rows and then columns: their lines, and the line and the number that stand beside each:
 // the difference, that is the exclusive or of its parity line and its lines as they stand, and how many of its lines are faulty.
+ghost use mathlib.Core.Bool.{false};
 ghost use mathlib.Core.Path.{_≡_};
-ghost use Prim.Native.Nat.{suc, _+_, _*_, _≤_, _<_};
+ghost use Prim.Native.Nat.{ℕ, suc, _+_, _*_, _≤_, _<_};
 ghost use lib.ListN.{length, getD};
 ghost use Rattle.linecode.specs.Places.{places};
 ghost use Rattle.linecode.specs.Code.{upFrom};
@@ -117,6 +118,21 @@ pub fn add(lacks: &mut [u8], k: usize, change: [u8; 70])
     lines::put_line(lacks, k, sum);
 }
 
+// The place after place i that may be set next: where a byte of zeros begins at i, it is passed over.
+pub fn after_place(line: [u8; 70], i: usize) -> usize
+    requires { ⌜ i < 553 ⌝ }
+    ensures { λ r. ⌜ (i < r) × (r ≤ 553) × ((k : ℕ) → i < k → k < r → getD (places line) k false ≡ false) ⌝ }
+{
+    if i < 536 {
+        if i % 8 == 0 {
+            if line[i / 8] == 0 {
+                return i + 8;
+            }
+        }
+    }
+    i + 1
+}
+
 // The set places of a line in rising order. A line of zeros has none, and from the seventh on they are not looked for.
 pub fn set_places(line: [u8; 70]) -> Places
     ensures { λ r. ⌜ Listed (setPlaces 0 (places line)) (r .count) (r .at) ⌝ }
@@ -135,7 +151,7 @@ pub fn set_places(line: [u8; 70]) -> Places
             at[count] = i;
             count += 1;
         }
-        i += 1;
+        i = after_place(line, i);
     }
     Places { count, at }
 }

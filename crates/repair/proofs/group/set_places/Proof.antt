@@ -1,14 +1,14 @@
 -- `repair::group::set_places` meets its contract.
 use borrow.Author.Needs.{needs}
 use native.Mathlib.Omega.{arith}
-use Prim.Native.Nat.{_-_, _≤_, _<_}
+use Prim.Native.Nat.{_+_, _-_, _≤_, _<_}
 use mathlib.Core.Path.{_≡_, sym, _∙_}
 use mathlib.Core.Logic.{⊎-elim}
 use lib.ListN.{length}
 use Rattle.linecode.specs.Places.{places}
 use Rattle.linecode.proofs.Bytes.{array-length}
 use Rattle.linecode.proofs.Line.{places-is, length-places}
-use Rattle.repair.proofs.Places.{Listing, listing-start, listing-zero, listing-kept, listing-full, listing-clear, listing-end, relist, relist-array}
+use Rattle.repair.proofs.Places.{Listing, listing-start, listing-zero, listing-kept, listing-full, listing-clear, listing-past, listing-end, relist, relist-array}
 use Rattle.repair.proofs.group.set_places.Statement.{statement}
 use Rattle.repair.proofs.group.set_places.Tie as tie
 
@@ -45,28 +45,31 @@ array-write-at c = omega arith
 add-count : tie.Need-add-count Inv-loop μ-loop
 add-count c = omega arith
 
-add-i : tie.Need-add-i Inv-loop μ-loop
-add-i c = omega arith
+after-place-requires : tie.Need-after-place-requires Inv-loop μ-loop
+after-place-requires c κs = omega arith
 
 loop-less : tie.Need-loop-less Inv-loop μ-loop
-loop-less c = omega arith
+loop-less c = omega (arith, c .after-place .ensures .0, c .after-place .ensures .1)
 
 loop-again : tie.Need-loop-again Inv-loop μ-loop
 loop-again c =
-    let here = c .before .before .before .loop in
-    let w = places (c .before .before .before .before .before .before .args .line) in
+    let here = c .before .before .before .before .loop in
+    let w = places (c .before .before .before .before .before .before .before .args .line) in
     let in-line : here .i < length w = omega arith in
-    let bit = sym (c .before .is-set .ensures) in (
-      omega arith,
+    let bit = sym (c .before .before .is-set .ensures) in
+    let next = c .after-place .ensures in (
+      next .1,
       here .inv .1,
-      ⊎-elim
+      listing-past w _ _ (here .i + 1) _
+          (⊎-elim
           (λ t.
           relist w _ _ _ _ (t .3)
           (relist-array w _ _ _ _ (t .2) (listing-kept w (here .at) (here .count) (here .i) (here .inv .2) in-line (bit ∙ t .0 .taken) (t .1 .left))))
           (λ t.
           relist w _ _ _ _ (t .2)
           (relist-array w _ _ _ _ (t .1) (listing-clear w (here .at) (here .count) (here .i) (here .inv .2) in-line (bit ∙ t .0 .left))))
-          (c .if2 .came),
+          (c .before .if2 .came))
+          (omega (arith, next .0)) (omega (arith, next .1, here .inv .1)) (λ k a b. next .2 k (omega arith) b),
     )
 
 returns-3 : tie.Need-returns-3 Inv-loop μ-loop
@@ -86,7 +89,7 @@ set-places-spec =
     mul-at
     array-write-at
     add-count
-    add-i
+    after-place-requires
     loop-less
     loop-again
     returns-3)
