@@ -13,7 +13,8 @@ use Rattle.gf2.specs.Word.{Word, flip}
 use Rattle.gf2.proofs.Weight.{length-flip}
 use Rattle.linecode.specs.Places.{protectedPlaces, linePlaces, places, lineOf}
 use Rattle.linecode.specs.Code.{protected, accepted, withHamming, columns, indexOf, naming, syndrome, answerTo}
-use Rattle.linecode.specs.Reading.{Read, acceptedAs, faulty, afterFlip, afterCorrector, corrected, firstLook, readAlone}
+use Rattle.linecode.specs.Reading.{Read, acceptedAs, faulty, afterFlip, corrected, firstLook, readAlone}
+use Rattle.linecode.specs.Corrector.{afterCorrector}
 use Rattle.linecode.specs.Entry.{reading}
 use Rattle.linecode.specs.declared.alone.Reading.{Reading}
 use Rattle.linecode.specs.declared.hamming.Answer.{Answer}

@@ -1,9 +1,7 @@
 -- Document 01, "Reading alone" (document 000, III-C), with the marks that repair gives.
 use mathlib.Core.Bool.{Bool, true, false}
 use Prim.Native.Nat.{ℕ}
-use lib.Dec.{ltb}
 use Rattle.gf2.specs.Word.{Word, flip}
-use Rattle.linecode.specs.Places.{protectedPlaces}
 use Rattle.linecode.specs.Code.{protected, accepted, withHamming, syndrome, answerTo}
 use Rattle.linecode.specs.declared.hamming.Answer.{Answer}
 use Rattle.linecode.specs.declared.hamming.Answer.the-variants.{None, Hamming, Protected}
@@ -31,10 +29,6 @@ abbrev pub corrected : Answer → Word → Read
 corrected None w = faulty w
 corrected (Hamming k) w = faulty w
 corrected (Protected i) w = afterFlip (accepted (flip i w)) (flip i w) w
-
--- the same by the place that was flipped to some avail, or any number past the protected places
-abbrev pub afterCorrector : ℕ → Word → Read
-afterCorrector i w = afterFlip (ltb i protectedPlaces) (flip i w) w
 
 -- the first look: a divisible word is accepted
 abbrev pub firstLook : Bool → Word → Read

@@ -7,7 +7,8 @@ ghost use mathlib.Core.Path.{_≡_};
 ghost use mathlib.Core.Bool.{false};
 ghost use Rattle.linecode.specs.Places.{places, lineOf};
 ghost use Rattle.linecode.specs.Code.{dataOf, codeword, accepted, isCorrect};
-ghost use Rattle.linecode.specs.Reading.{afterCorrector, readAlone};
+ghost use Rattle.linecode.specs.Reading.{readAlone};
+ghost use Rattle.linecode.specs.Corrector.{afterCorrector};
 ghost use Rattle.linecode.specs.Entry.{written, reading};
 ghost use Rattle.register.specs.Slices.{sliceTable};
 
@@ -77,7 +78,7 @@ pub fn read_line(line: [u8; 70]) -> Reading
     read_hurt(line)
 }
 
-// The same with a lent table, for many lines.
+// The same with a lent table, for many lines. Public for the crates above, which bind the table; not an entry point.
 pub fn read_by(slices: &[u32; 4096], line: [u8; 70]) -> Reading
     requires { ⌜ now slices ≡ sliceTable ⌝ }
     ensures { λ r. ⌜ r ≡ reading line ⌝ }

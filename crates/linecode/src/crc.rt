@@ -1,4 +1,5 @@
 // The CRC of a line's data. The register that works it out stands below, in the crate `register`.
+// Public for the crate's other modules; those that ask for the lent table are not entry points.
 ghost use mathlib.Core.Path.{_≡_};
 ghost use Rattle.gf2.specs.Word.{number};
 ghost use Rattle.gf2.specs.Check.{crc};

@@ -1,4 +1,5 @@
 // Bytes as a word, the first byte lowest. A chain of shifts and ors is compiled to one load of the whole word.
+// Public for the crate's other modules; the module itself is private.
 ghost use mathlib.Core.Path.{_≡_};
 ghost use mathlib.Core.List.{[], _∷_};
 ghost use Prim.Native.Nat.{_+_, _<_};

@@ -1,4 +1,5 @@
-// The register by a table that the caller lends.
+// The register by a table that the caller lends. Public for the line code, which passes the table on; not an
+// entry point.
 use crate::words;
 ghost use mathlib.Core.Path.{_≡_};
 ghost use mathlib.Core.List.{[], _∷_};

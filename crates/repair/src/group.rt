@@ -1,5 +1,6 @@
 // The groups of a rectangle in visiting order, rows and then columns: their lines, and the line and the number that stand beside each:
 // the difference, that is the exclusive or of its parity line and its lines as they stand, and how many of its lines are faulty.
+// Public for the crate's other modules; the module is private, and what its functions ask, `repair::repair` has tested or made.
 ghost use mathlib.Core.Bool.{false};
 ghost use mathlib.Core.Path.{_≡_};
 ghost use Prim.Native.Nat.{ℕ, suc, _+_, _*_, _≤_, _<_};

@@ -1,4 +1,5 @@
 // Passes over all groups: rows 0 upward, then columns 0 upward. Document 01, "Repair".
+// Public for the crate's other modules; the module is private, and what its functions ask, `repair::repair` has tested or made.
 ghost use mathlib.Core.Path.{_≡_};
 ghost use Rattle.register.specs.Slices.{sliceTable};
 ghost use Rattle.scheme.specs.Layer.{readLine};

@@ -1,4 +1,5 @@
 // The first reading: one sweep over all lines, row after row. Document 01, "Repair".
+// Public for the crate's other modules; the module is private, and what its functions ask, `repair::repair` has tested or made.
 ghost use mathlib.Core.Path.{_≡_};
 ghost use mathlib.Core.List.{[]};
 ghost use Prim.Native.Nat.{ℕ, _+_, _*_, _<_};

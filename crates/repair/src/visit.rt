@@ -1,4 +1,5 @@
 // A visit of one group: the trials, and the rebuilding of a line that is left alone. Document 01, "Repair".
+// Public for the crate's other modules; the module is private, and what its functions ask, `repair::repair` has tested or made.
 ghost use mathlib.Core.Path.{_≡_};
 ghost use Prim.Native.Nat.{ℕ, _*_, _≤_, _<_};
 ghost use lib.ListN.{length, getD, take, set};
