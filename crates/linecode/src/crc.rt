@@ -24,7 +24,7 @@ pub fn of_data_by(slices: &[u32; 4096], line: [u8; 70]) -> u32
 }
 
 // The CRC that a line holds.
-fn stored(line: [u8; 70]) -> u32
+pub fn stored(line: [u8; 70]) -> u32
     ensures { λ r. ⌜ r ≡ number (storedCrc (places line)) ⌝ }
 {
     (line[64] as u32)

@@ -211,3 +211,14 @@ after-sixteen entry rule r x b c d e bs h e0 n p =
 
     term : (k count m y : ℕ) → k < 16 → count ≡ suc k → m % 256 ≡ y % 256 → times count (m % 256) ≡ entry k (y % 256)
     term k count m y h f q = ap₂ times f q ∙ sym (rule k (y % 256) h (low y))
+
+-- bytes that meet an empty register
+pub after-zero : (entry : ℕ → ℕ → ℕ) (n : ℕ) → ((k b : ℕ) → k < n → b < 256 → entry k b ≡ times (suc k) b)
+    → (bs : List ℕ) → length bs ≤ n → Bytes bs → after 0 bs ≡ late entry bs
+unfolding after
+after-zero entry n rule bs h p = fed-zero entry n rule bs h p
+
+-- what stood in the register and the bytes, each alone
+pub after-apart : (r : ℕ) (bs : List ℕ) → r < 2 ^ 31 → after r bs ≡ bitXor (after 0 bs) (times (length bs) r)
+unfolding after
+after-apart r bs h = ap (λ (n : ℕ). fed n bs) (sym (xor-zero-r r)) ∙ fed-xor r 0 bs h

@@ -54,16 +54,16 @@ small-eight : (ns : List ℕ) → Small (map eightSteps ns)
 small-eight [] = tt
 small-eight (n ∷ ns) = (eight-lt n, small-eight ns)
 
-length-upFrom : (n k : ℕ) → length (upFrom n k) ≡ k
+pub length-upFrom : (n k : ℕ) → length (upFrom n k) ≡ k
 length-upFrom n zero = refl
 length-upFrom n (suc k) = ap suc (length-upFrom (suc n) k)
 
-getD-upFrom : (n k i : ℕ) → i < k → getD (upFrom n k) i 0 ≡ n + i
+pub getD-upFrom : (n k i : ℕ) → i < k → getD (upFrom n k) i 0 ≡ n + i
 getD-upFrom n zero i h = absurd (not-suc-le-zero h)
 getD-upFrom n (suc k) zero h = omega arith
 getD-upFrom n (suc k) (suc i) h = getD-upFrom (suc n) k i (le-of-suc-le-suc h) ∙ suc-add n i ∙ sym (add-suc n i)
 
-getD-map : (f : ℕ → ℕ) (ns : List ℕ) (i : ℕ) → i < length ns → getD (map f ns) i 0 ≡ f (getD ns i 0)
+pub getD-map : (f : ℕ → ℕ) (ns : List ℕ) (i : ℕ) → i < length ns → getD (map f ns) i 0 ≡ f (getD ns i 0)
 getD-map f [] i h = absurd (not-suc-le-zero h)
 getD-map f (n ∷ ns) zero h = refl
 getD-map f (n ∷ ns) (suc i) h = getD-map f ns i (le-of-suc-le-suc h)
