@@ -16,9 +16,9 @@ use Rattle.rectangle.specs.Repair.{repaired, handedOver, repairStore}
 use Rattle.storefile.specs.Bytes.{numberAt}
 use Rattle.storefile.specs.Header.{headerBytes, linesPart, rowTablePart, columnTablePart, fileLength, entry, header, bytesIn}
 use Rattle.storefile.specs.Opening.{rowsIn, columnsIn, sidesWithin, entryIs, entriesFit, contentsFit, openRefusal, opened}
-use Rattle.storefile.specs.Marks.{countOf, countsOf, noCounts}
-use Rattle.storefile.specs.Report.{decimal, spaced, line, storeLine, countLines, linesAbove, handsOver, reportText}
-use Rattle.storefile.specs.Check.{refusedWith, repairOpened, counted, checkStore}
+use Rattle.report.specs.Marks.{countOf, countsOf, noCounts}
+use Rattle.report.specs.Report.{decimal, spaced, line, storeLine, countLines, linesAbove, handsOver, reportText}
+use Rattle.report.specs.Check.{refusedWith, repairOpened, counted, checkStore}
 use Rattle.samples.specs.Samples.{sameBytes}
 use Rattle.samples.specs.Report.{ZeroStoreReport}
 

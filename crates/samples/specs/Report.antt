@@ -4,8 +4,8 @@ use mathlib.Core.List.{List, _++_}
 use Prim.Native.Nat.{ℕ}
 use lib.ListN.{replicate}
 use Rattle.storefile.specs.Header.{header}
-use Rattle.storefile.specs.Report.{ascii, reportText}
-use Rattle.storefile.specs.Check.{checkStore}
+use Rattle.report.specs.Report.{ascii, reportText}
+use Rattle.report.specs.Check.{checkStore}
 
 -- ---- "For a 2 by 2 store of zero bytes after its header it prints exactly"
 abbrev pub zeroStore : List ℕ

@@ -3,8 +3,8 @@ ghost use mathlib.Core.Path.{_≡_};
 ghost use Prim.Native.Nat.{_+_, _≤_};
 ghost use lib.ListN.{length};
 ghost use Rattle.io.specs.Counts.{Counts};
+use report::program;
 use storefile::opening;
-use storefile::program;
 
 // Reads the header, or as much of it as there is.
 fn read_header(file: &mut [u8]) -> usize

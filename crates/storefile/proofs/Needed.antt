@@ -1,16 +1,15 @@
--- How many bytes a reader needs, and that the bytes after them change nothing of a check.
+-- How many bytes a reader needs, and that a file that is longer is refused, whether it was read whole or only as far.
 use mathlib.Core.Path.{_≡_, refl, sym, ap, _∙_}
 use mathlib.Core.Bool.{Bool, true, false, cond, _&&_}
 use mathlib.Core.Logic.{_⊎_, inl, inr}
 use mathlib.Core.List.{List}
 use Prim.Native.Nat.{ℕ, suc, _+_, _≤_, _<_}
-use native.Mathlib.Decide.{decLe}
 use native.Mathlib.Nat.{mul-le-mul}
 use native.Mathlib.Omega.{arith}
 use borrow.Author.Tests.{eq-eqb, ne-eqb, le-leb, leb-true, eqb-true}
 use lib.Dec.{eqb, leb}
 use lib.ListN.{length, take, drop, take-append-drop}
-use lib.Seq.{take-all, take-take, length-take-le}
+use lib.Seq.{take-take, length-take-le}
 use Rattle.linecode.specs.Places.{lineBytes}
 use Rattle.rectangle.specs.Refusals.{sidesFit}
 use Rattle.rectangle.proofs.Groups.{sides}
@@ -19,12 +18,9 @@ use Rattle.rectangle.proofs.Tests.{passed}
 use Rattle.storefile.specs.Bytes.{numberOf, numberAt}
 use Rattle.storefile.specs.Header.{headerBytes, linesPart, rowTablePart, columnTablePart, fileLength}
 use Rattle.storefile.specs.Opening.{rowsIn, columnsIn, sidesWithin, entryIs, entriesFit, contentsFit, openRefusal, opened, bytesNeeded}
-use Rattle.storefile.specs.Check.{StoreChecked, refusedWith, checkStore}
-use Rattle.storefile.specs.Promises.{MoreChangesNothing}
 use Rattle.storefile.specs.declared.header.Part.{Part}
 use Rattle.storefile.specs.declared.opening.Opened.{Opened}
 use Rattle.storefile.proofs.Openings.{sides-within, opened-accepted, opened-refused}
-use Rattle.storefile.proofs.Checking.{check-refused}
 use Rattle.storefile.proofs.MadeFile.{number-in-front}
 
 -- ---- the function, case by case
@@ -159,11 +155,12 @@ bodies-follow : (rows columns : ℕ) → 2 ≤ rows → 28 < fileLength rows col
 unfolding fileLength columnTablePart rowTablePart linesPart headerBytes lineBytes
 bodies-follow rows columns h = omega arith
 
-record Refused (limit : ℕ) (one two : List ℕ) : Type 0 where
-  answer : ℕ
-  some : answer ≡ 0 → ⊥
-  first : openRefusal limit one ≡ answer
-  second : openRefusal limit two ≡ answer
+-- two files are refused with one answer
+pub record Refused (limit : ℕ) (one two : List ℕ) : Type 0 where
+  pub answer : ℕ
+  pub some : answer ≡ 0 → ⊥
+  pub first : openRefusal limit one ≡ answer
+  pub second : openRefusal limit two ≡ answer
 
 module _ (limit : ℕ) (file : List ℕ) (longer : bytesNeeded limit (take 28 file) < length file) where
   abbrev start : List ℕ
@@ -205,8 +202,8 @@ module _ (limit : ℕ) (file : List ℕ) (longer : bytesNeeded limit (take 28 fi
     unfolding bytesNeeded
     whole e = rw (wrong-length, e)
 
-  both : Refused limit read file
-  both = go _ _ _ refl refl refl
+  pub both-refused : Refused limit read file
+  both-refused = go _ _ _ refl refl refl
     where
       go : (a b e : Bool) → sidesFit (rowsIn start) (columnsIn start) ≡ a → sidesWithin limit (rowsIn start) (columnsIn start) ≡ b
           → entriesFit start (rowsIn start) (columnsIn start) ≡ e → Refused limit read file
@@ -238,29 +235,3 @@ module _ (limit : ℕ) (file : List ℕ) (longer : bytesNeeded limit (take 28 fi
             first = length-told limit start read (omega (arith, length-read, least)) start-read ea eb (λ z. omega (arith, length-read, whole ea eb ee, z));
             second = length-told limit start file long refl ea eb (λ z. omega (arith, longer, whole ea eb ee, z));
           }
-
-check-of-refused : (limit : ℕ) (file out marks : List ℕ) (n : ℕ) → (n ≡ 0 → ⊥) → openRefusal limit file ≡ n
-    → checkStore limit file out marks ≡ record { checked = refusedWith n; lines = out; marks = marks }
-check-of-refused limit file out marks n d e =
-    sym (check-refused limit file out marks (refused n) is d (refusedWith n) refl)
-  where
-    refused : ℕ → Opened
-    refused n = record { answer = n; rows = 0; columns = 0 }
-
-    is : refused n ≡ opened limit file
-    is = sym (opened-refused limit file (λ z. d (sym e ∙ z)) ∙ ap refused e)
-
-pub more-changes-nothing : MoreChangesNothing
-unfolding headerBytes
-more-changes-nothing limit file out marks = go (decLe (length file) (bytesNeeded limit (take 28 file)))
-  where
-    go : Dec (length file ≤ bytesNeeded limit (take 28 file))
-        → checkStore limit (take (bytesNeeded limit (take 28 file)) file) out marks ≡ checkStore limit file out marks
-    go (yes l) = ap (λ (f : List ℕ). checkStore limit f out marks) (take-all (bytesNeeded limit (take 28 file)) file l)
-    go (no l) = refused (both limit file (omega arith))
-      where
-        refused : Refused limit (take (bytesNeeded limit (take 28 file)) file) file
-            → checkStore limit (take (bytesNeeded limit (take 28 file)) file) out marks ≡ checkStore limit file out marks
-        refused b =
-            check-of-refused limit _ out marks (b .answer) (b .some) (b .first)
-            ∙ sym (check-of-refused limit file out marks (b .answer) (b .some) (b .second))

@@ -1,5 +1,5 @@
-// Numbers in bytes, little-endian, and bytes put into a buffer. Public for the crate's other modules, not entry points: each function
-// asks that its bytes lie inside the slice, which the entry points have tested.
+// Numbers in bytes, little-endian, and bytes put into a buffer. Public for the crate's other modules and the crate `report`, not entry
+// points: each function asks that its bytes lie inside the slice, which the entry points have tested.
 ghost use mathlib.Core.Path.{_≡_};
 ghost use Prim.Native.Nat.{_+_, _≤_};
 ghost use lib.ListN.{length};

@@ -1,8 +1,4 @@
-// The store file: its header, opening, the bodies, the counts of marks and the report. Document 01, "Store file".
+// The form of a store file: its header, opening a file of any bytes, and its bodies. Document 01, "Store file".
 pub mod bytes;
-pub mod check;
 pub mod header;
-pub mod marks;
 pub mod opening;
-pub mod program;
-pub mod report;

@@ -1,0 +1,80 @@
+-- The program's report: its work buffers just hold the store, and the text lies inside its buffer.
+use mathlib.Core.Path.{_≡_, refl, sym, ap, ap₂, _∙_}
+use mathlib.Core.Bool.{Bool, true, false, cond}
+use mathlib.Core.List.{List, _∷_, _++_}
+use Prim.Native.Nat.{ℕ, zero, suc, _*_, _≤_}
+use native.Mathlib.Nat.{mul-le-mul}
+use native.Mathlib.Omega.{arith}
+use lib.Dec.{eqb}
+use lib.ListN.{length, take, drop, replicate, length-append, length-replicate}
+use lib.Seq.{length-take-le}
+use Rattle.linecode.specs.Places.{lineBytes}
+use Rattle.storefile.specs.Opening.{rowsIn, columnsIn, sidesWithin, opened}
+use Rattle.report.specs.Report.{reportText, reportBytes, ReportWritten, writeReport}
+use Rattle.report.specs.Check.{StoreChecked, checkStore}
+use Rattle.report.specs.Program.{programSide, programLines, programReport}
+use Rattle.report.specs.declared.report.Checked.{Checked}
+use Rattle.storefile.specs.declared.opening.Opened.{Opened}
+use Rattle.storefile.proofs.Openings.{sides-within, Opens, Outcome, refused, accepted, outcome}
+
+-- rows and columns of a file that opens are at most the limit; of another they are 0
+pub within-limit : (limit : ℕ) (file : List ℕ) (o : Opened) → o ≡ opened limit file → (o .rows ≤ limit) × (o .columns ≤ limit)
+within-limit limit file o is = go (outcome limit file o is)
+  where
+    go : Outcome limit file o → (o .rows ≤ limit) × (o .columns ≤ limit)
+    go (refused d e) =
+        let r = ap (λ (x : Opened). x .rows) e in
+        let c = ap (λ (x : Opened). x .columns) e in
+        (omega arith, omega arith)
+    go (accepted e h) = inside (h .within)
+      where
+        inside : sidesWithin limit (rowsIn file) (columnsIn file) ≡ true → (o .rows ≤ limit) × (o .columns ≤ limit)
+        inside w =
+            let r = ap (λ (x : Opened). x .rows) e in
+            let c = ap (λ (x : Opened). x .columns) e in
+            let both = sides-within limit (rowsIn file) (columnsIn file) w in
+            (omega (arith, both .0), omega (arith, both .1))
+
+pub program-few : (file : List ℕ) (o : Opened) → o ≡ opened 16 file → o .rows * o .columns ≤ 256
+program-few file o is = let small = within-limit 16 file o is in mul-le-mul (small .0) (small .1)
+
+-- ---- the work buffers
+abbrev pub zeros : ℕ → List ℕ
+zeros n = replicate n 0
+
+take-zeros : (k n : ℕ) → k ≤ n → take k (zeros n) ≡ zeros k
+take-zeros zero n h = refl
+take-zeros (suc k) zero h = let z : ⊥ = omega arith in absurd z
+take-zeros (suc k) (suc n) h = ap (λ (l : List ℕ). 0 ∷ l) (take-zeros k n (omega arith))
+
+pub room : (k n : ℕ) → k ≤ n → k ≡ length (take k (zeros n))
+room k n h = sym (length-take-le k (zeros n) (omega (arith, length-replicate {A = ℕ} n 0)))
+
+module _ (file text : List ℕ) (o : Opened) (is : o ≡ opened 16 file) where
+  pub program-printed : (k : Checked) (lines marks : List ℕ)
+      → _≡_ {A = StoreChecked} (record { checked = k; lines = lines; marks = marks })
+      (checkStore 16 file (take (o .rows * o .columns * 70) (zeros 17920)) (take (o .rows * o .columns) (zeros 256)))
+      → (w : ReportWritten) → w ≡ writeReport k text → w ≡ programReport file text
+  unfolding programReport programLines programSide lineBytes
+  program-printed k lines marks e w f =
+      f
+      ∙ ap (λ (s : StoreChecked). writeReport (s .checked) text) e
+      ∙ ap₂ (λ (a b : List ℕ). writeReport (checkStore 16 file a b .checked) text)
+      (take-zeros (o .rows * o .columns * 70) 17920 (omega (arith, program-few file o is)))
+      (take-zeros (o .rows * o .columns) 256 (program-few file o is))
+      ∙ ap (λ (x : Opened). writeReport (checkStore 16 file (replicate (x .rows * x .columns * 70) 0) (replicate (x .rows * x .columns) 0) .checked) text) is
+
+-- ---- the text lies inside its buffer
+pub report-inside : (k : Checked) (text after : List ℕ) (answer size : ℕ)
+    → record { answer = answer; size = size; out = after } ≡ writeReport k text → length after ≡ length text → size ≤ length text
+unfolding writeReport
+report-inside k text after answer size e l = go (eqb (length text) reportBytes) e
+  where
+    go : (b : Bool) → _≡_ {A = ReportWritten} (record { answer = answer; size = size; out = after }) (cond b
+        (record { answer = 0; size = length (reportText k); out = reportText k ++ drop (length (reportText k)) text })
+        (record { answer = 7; size = 0; out = text })) → size ≤ length text
+    go true e =
+        let short = ap (λ (w : ReportWritten). w .size) e in
+        let out = ap (λ (w : ReportWritten). length (w .out)) e in
+        omega (arith, length-append (reportText k) (drop (length (reportText k)) text))
+    go false e = let short = ap (λ (w : ReportWritten). w .size) e in omega arith

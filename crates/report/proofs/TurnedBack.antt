@@ -1,0 +1,153 @@
+-- Checks that are turned back write nothing and return zeros; those that are not count every line.
+use mathlib.Core.Path.{_≡_, refl, sym, _∙_, subst}
+use mathlib.Core.Logic.{_⊎_, inl, inr}
+use mathlib.Core.Bool.{Bool, true, false, cond, _&&_, true≢false}
+use mathlib.Core.List.{List}
+use Prim.Native.Nat.{ℕ, _*_, _≤_, _<_}
+use lib.Dec.{eqb, leb}
+use lib.ListN.{length, getD}
+use Rattle.scheme.specs.Layer.{readLine}
+use Rattle.scheme.specs.Visit.{Group, State}
+use Rattle.scheme.specs.Repair.{faultyCount, agrees, answer, repair}
+use Rattle.rectangle.specs.Store.{lineLayer, linesIn, groups}
+use Rattle.rectangle.specs.Refusals.{unless, sidesFit, holds, tablesFit, parityCorrect, every, repairRefusal}
+use Rattle.rectangle.specs.Repair.{StoreRepaired, repaired, handedOver, repairStore}
+use Rattle.rectangle.proofs.Buffer.{length-linesIn}
+use Rattle.rectangle.proofs.Runs.{zero-or-not, repair-runs, repair-refused}
+use Rattle.storefile.specs.Header.{headerBytes}
+use Rattle.storefile.specs.Opening.{rowsIn, columnsIn, sidesWithin, contentsFit, openRefusal, opened}
+use Rattle.report.specs.Marks.{countsOf}
+use Rattle.report.specs.Report.{handsOver}
+use Rattle.report.specs.Check.{StoreChecked, refusedWith, repairOpened, checkStore}
+use Rattle.report.specs.Promises.{total, CheckCountsLines, CheckRefusalsWriteNothing}
+use Rattle.storefile.proofs.Openings.{Outcome, accepted, refused, outcome}
+use Rattle.report.proofs.Checking.{check-refused, check-turned-back, check-counted}
+use Rattle.report.proofs.Marked.{read-mark, repaired-marks, repaired-count}
+use Rattle.report.proofs.Adding.{counts-add-up}
+
+-- ---- which answers hand over
+opening-refuses : (a b c d : Bool) → let r = unless a 1 (unless b 2 (unless c 3 (unless d 4 0))) in (r ≡ 0 → ⊥) → handsOver r ≡ false
+unfolding handsOver
+opening-refuses false b c d n = refl
+opening-refuses true false c d n = refl
+opening-refuses true true false d n = refl
+opening-refuses true true true false n = refl
+opening-refuses true true true true n = absurd (n refl)
+
+repair-refuses : (a b c d e : Bool) → let r = unless a 2 (unless b 5 (unless c 6 (unless d 7 (unless e 9 0)))) in (r ≡ 0 → ⊥)
+    → handsOver r ≡ false
+unfolding handsOver
+repair-refuses false b c d e n = refl
+repair-refuses true false c d e n = refl
+repair-refuses true true false d e n = refl
+repair-refuses true true true false e n = refl
+repair-refuses true true true true false n = refl
+repair-refuses true true true true true n = absurd (n refl)
+
+repair-answers : (gs : List Group) (s : State) → handsOver (answer gs s) ≡ true
+unfolding answer handsOver
+repair-answers gs s = go (eqb (faultyCount s) 0) (agrees gs s)
+  where
+    go : (a b : Bool) → handsOver (cond a (cond b 0 12) 11) ≡ true
+    go true true = refl
+    go true false = refl
+    go false b = refl
+
+-- ---- repair hands over the marks of as many lines, or is refused and writes nothing
+data Repairing (k : ℕ) (out marks : List ℕ) (r : StoreRepaired) : Type 0 where
+  over : handsOver (r .answer) ≡ true → length (r .marks) ≡ k → ((n : ℕ) → n < length (r .marks) → getD (r .marks) n 0 ≤ 4)
+      → Repairing k out marks r
+  none : handsOver (r .answer) ≡ false → r .lines ≡ out → r .marks ≡ marks → Repairing k out marks r
+
+module _ (rows columns : ℕ) (lines rowTable columnTable out marks : List ℕ) where
+  refuses : (repairRefusal rows columns lines rowTable columnTable out marks ≡ 0 → ⊥)
+      → handsOver (repairRefusal rows columns lines rowTable columnTable out marks) ≡ false
+  unfolding repairRefusal
+  refuses d =
+      repair-refuses (sidesFit rows columns) (holds (rows * columns) lines) (tablesFit rows columns rowTable columnTable)
+      (holds (rows * columns) out && eqb (length marks) (rows * columns))
+      (every parityCorrect (groups rows columns rowTable columnTable)) d
+
+  handed : Repairing (rows * columns) out marks (handedOver (groups rows columns rowTable columnTable) (repaired rows columns lines rowTable columnTable))
+  unfolding handedOver repaired
+  handed =
+      let gs = groups rows columns rowTable columnTable in
+      let found = linesIn (rows * columns) lines in
+      over (repair-answers gs (repair (readLine lineLayer) gs found .cells))
+      (repaired-count (readLine lineLayer) gs found ∙ length-linesIn (rows * columns) lines)
+      (repaired-marks (readLine lineLayer) read-mark gs found)
+
+  repairing : Repairing (rows * columns) out marks (repairStore rows columns lines rowTable columnTable out marks)
+  repairing = go (zero-or-not (repairRefusal rows columns lines rowTable columnTable out marks))
+    where
+      go : (repairRefusal rows columns lines rowTable columnTable out marks ≡ 0)
+          ⊎ (repairRefusal rows columns lines rowTable columnTable out marks ≡ 0 → ⊥)
+          → Repairing (rows * columns) out marks (repairStore rows columns lines rowTable columnTable out marks)
+      go (inl z) =
+          subst (Repairing (rows * columns) out marks)
+          (sym (repair-runs rows columns lines rowTable columnTable out marks 0 z refl)) handed
+      go (inr d) =
+          subst (Repairing (rows * columns) out marks)
+          (sym (repair-refused rows columns lines rowTable columnTable out marks _ refl d)) (none (refuses d) refl refl)
+
+-- ---- a check is turned back, or counts every line
+data Checks (out marks : List ℕ) (s : StoreChecked) : Type 0 where
+  over : handsOver (s .checked .answer) ≡ true → total (s .checked .counts) ≡ s .checked .rows * s .checked .columns → Checks out marks s
+  none : handsOver (s .checked .answer) ≡ false → s .checked ≡ refusedWith (s .checked .answer) → s .lines ≡ out → s .marks ≡ marks
+      → Checks out marks s
+
+module _ (limit : ℕ) (file out marks : List ℕ) where
+  opening-turns : (openRefusal limit file ≡ 0 → ⊥) → handsOver (openRefusal limit file) ≡ false
+  unfolding openRefusal
+  opening-turns d =
+      opening-refuses (leb headerBytes (length file)) (sidesFit (rowsIn file) (columnsIn file))
+      (sidesWithin limit (rowsIn file) (columnsIn file)) (contentsFit file (rowsIn file) (columnsIn file)) d
+
+  turned : (a : ℕ) (lines′ marks′ : List ℕ) → handsOver a ≡ false → lines′ ≡ out → marks′ ≡ marks
+      → Checks out marks (record { checked = refusedWith a; lines = lines′; marks = marks′ })
+  unfolding refusedWith
+  turned a lines′ marks′ h e f = none h refl e f
+
+  module _ (rows columns : ℕ) (is : record { answer = 0; rows = rows; columns = columns } ≡ opened limit file) where
+    abbrev r : StoreRepaired
+    r = repairOpened file rows columns out marks
+
+    repairs : Repairing (rows * columns) out marks r
+    unfolding repairOpened
+    repairs = repairing rows columns _ _ _ out marks
+
+    checks-opened : Repairing (rows * columns) out marks r → Checks out marks (checkStore limit file out marks)
+    checks-opened (over h e f) =
+        subst (Checks out marks) (check-counted limit file out marks _ is refl r refl h (countsOf (r .marks)) refl)
+        (over h (counts-add-up (r .marks) f ∙ e))
+    checks-opened (none h e f) =
+        subst (Checks out marks) (check-turned-back limit file out marks _ is refl r refl h (refusedWith (r .answer)) refl)
+        (turned (r .answer) (r .lines) (r .marks) h e f)
+
+  checks : Checks out marks (checkStore limit file out marks)
+  checks = go (outcome limit file (opened limit file) refl)
+    where
+      go : Outcome limit file (opened limit file) → Checks out marks (checkStore limit file out marks)
+      go (accepted e h) = checks-opened (rowsIn file) (columnsIn file) (sym e) (repairs (rowsIn file) (columnsIn file) (sym e))
+      go (refused d e) =
+          subst (Checks out marks)
+          (check-refused limit file out marks _ (sym e) d (refusedWith (openRefusal limit file)) refl)
+          (turned (openRefusal limit file) out marks (opening-turns d) refl refl)
+
+pub check-counts-lines : CheckCountsLines
+check-counts-lines limit file out marks h = go (checks limit file out marks)
+  where
+    go : Checks out marks (checkStore limit file out marks)
+        → total (checkStore limit file out marks .checked .counts)
+        ≡ checkStore limit file out marks .checked .rows * checkStore limit file out marks .checked .columns
+    go (over i e) = e
+    go (none i e f g) = absurd (true≢false (sym h ∙ i))
+
+pub check-refusals-write-nothing : CheckRefusalsWriteNothing
+check-refusals-write-nothing limit file out marks h = go (checks limit file out marks)
+  where
+    go : Checks out marks (checkStore limit file out marks)
+        → (checkStore limit file out marks .checked ≡ refusedWith (checkStore limit file out marks .checked .answer))
+        × (checkStore limit file out marks .lines ≡ out) × (checkStore limit file out marks .marks ≡ marks)
+    go (over i e) = absurd (true≢false (sym i ∙ h))
+    go (none i e f g) = (e, f, g)

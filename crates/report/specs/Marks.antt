@@ -1,0 +1,26 @@
+-- Document 01, "Store file": the counts of marks 0 to 4.
+use mathlib.Core.List.{List}
+use Prim.Native.Nat.{ℕ}
+use lib.Dec.{eqb}
+use lib.ListN.{length}
+use Rattle.scheme.specs.Visit.{select}
+use Rattle.report.specs.declared.marks.Counts.{Counts}
+
+-- how often a mark stands among some marks
+unfoldable pub countOf : ℕ → List ℕ → ℕ
+countOf mark marks = length (select (λ m. eqb m mark) marks)
+
+-- 0 accepted with the protected word untouched, 1 accepted after a flip, 2 mended by trial, 3 rebuilt, 4 faulty
+unfoldable pub countsOf : List ℕ → Counts
+countsOf marks =
+    record {
+      clean = countOf 0 marks;
+      alone = countOf 1 marks;
+      trial = countOf 2 marks;
+      rebuilt = countOf 3 marks;
+      faulty = countOf 4 marks;
+    }
+
+-- where nothing was counted
+unfoldable pub noCounts : Counts
+noCounts = record { clean = 0; alone = 0; trial = 0; rebuilt = 0; faulty = 0 }

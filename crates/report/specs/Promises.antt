@@ -1,0 +1,54 @@
+-- What is promised of a check and the report beyond the contracts, each sentence above its statement; the proofs stand in proofs/.
+use mathlib.Core.Path.{_≡_}
+use mathlib.Core.Bool.{true, false}
+use mathlib.Core.List.{List, [], _∷_}
+use Prim.Native.Nat.{ℕ, _+_, _-_, _*_, _≤_, _<_}
+use lib.ListN.{length, take, getD}
+use Rattle.storefile.specs.Header.{headerBytes}
+use Rattle.storefile.specs.Opening.{bytesNeeded}
+use Rattle.report.specs.Marks.{countsOf}
+use Rattle.report.specs.Report.{decimal, handsOver}
+use Rattle.report.specs.Check.{refusedWith, checkStore}
+use Rattle.report.specs.declared.marks.Counts.{Counts}
+
+-- ---- a reader that stops after the bytes it needs gives the same answer: those that follow change nothing
+abbrev pub MoreChangesNothing : Type 0
+MoreChangesNothing =
+    (limit : ℕ) (file out marks : List ℕ)
+    → checkStore limit (take (bytesNeeded limit (take headerBytes file)) file) out marks ≡ checkStore limit file out marks
+
+-- ---- "the counts are defined from the marks and add up to the lines"
+abbrev pub total : Counts → ℕ
+total c = c .clean + c .alone + c .trial + c .rebuilt + c .faulty
+
+abbrev pub CountsAddUp : Type 0
+CountsAddUp = (marks : List ℕ) → ((n : ℕ) → n < length marks → getD marks n 0 ≤ 4) → total (countsOf marks) ≡ length marks
+
+-- of every check that hands lines and marks over
+abbrev pub CheckCountsLines : Type 0
+CheckCountsLines =
+    (limit : ℕ) (file out marks : List ℕ)
+    → let checked = checkStore limit file out marks .checked in
+    handsOver (checked .answer) ≡ true → total (checked .counts) ≡ checked .rows * checked .columns
+
+-- ---- "Passes are 0 for answers 1 to 10, which write nothing; a value that a call would return is 0"
+abbrev pub CheckRefusalsWriteNothing : Type 0
+CheckRefusalsWriteNothing =
+    (limit : ℕ) (file out marks : List ℕ)
+    → let r = checkStore limit file out marks in
+    handsOver (r .checked .answer) ≡ false
+    → (r .checked ≡ refusedWith (r .checked .answer)) × (r .lines ≡ out) × (r .marks ≡ marks)
+
+-- ---- "decimal without leading zeros": digits from 48 to 57, which read back give the number; only 0 begins with 48, and it is short
+abbrev pub readDecimal : ℕ → List ℕ → ℕ
+readDecimal n [] = n
+readDecimal n (d ∷ ds) = readDecimal (10 * n + (d - 48)) ds
+
+pub record Decimal (n : ℕ) : Type 0 where
+  pub digits : (i : ℕ) → i < length (decimal n) → (48 ≤ getD (decimal n) i 0) × (getD (decimal n) i 0 ≤ 57)
+  pub number : readDecimal 0 (decimal n) ≡ n
+  pub noZero : 1 ≤ n → getD (decimal n) 0 0 ≡ 48 → ⊥
+  pub short : n < 10 → length (decimal n) ≡ 1
+
+abbrev pub DecimalWithoutZeros : Type 0
+DecimalWithoutZeros = (n : ℕ) → Decimal n
