@@ -8,7 +8,7 @@ use crate::lines::column_parity;
 use crate::lines::put_line;
 use crate::lines::row_parity;
 use crate::sizes;
-use linecode::alone;
+use single::alone;
 use linecode::place;
 ghost use mathlib.Core.Path.{_≡_};
 ghost use mathlib.Core.Bool.{_&&_};

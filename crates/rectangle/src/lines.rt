@@ -1,6 +1,6 @@
 // Lines in a lent buffer. The functions of this module are public because the crates above go through them alone; each asks that
 // the line lies inside the buffer, which the entry points have tested.
-use linecode::alone;
+use single::alone;
 use linecode::alone::Reading;
 use linecode::place;
 ghost use mathlib.Core.Path.{_≡_};

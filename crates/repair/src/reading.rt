@@ -11,7 +11,7 @@ ghost use Rattle.scheme.specs.Repair.{readAll};
 ghost use Rattle.rectangle.specs.Store.{lineLayer, linesIn};
 ghost use Rattle.repair.specs.Lent.{Room, ReadUpTo, ReadsOn, Tracked, Carried};
 use crate::group;
-use linecode::alone;
+use single::alone;
 use linecode::place;
 use rectangle::lines;
 

@@ -13,7 +13,7 @@ ghost use Rattle.repair.specs.Lent.{Ready, Carried, Makes, Numbered, gro
 use crate::group;
 use crate::group::Chosen;
 use crate::group::Places;
-use linecode::alone;
+use single::alone;
 use linecode::place;
 use rectangle::lines;
 
