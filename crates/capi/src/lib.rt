@@ -87,7 +87,7 @@ pub extern "C" fn sudoku_change_line(
         (changeLine rows columns (now (lines .entry)) (now («row_table» .entry)) (now («column_table» .entry)) n
         (now (payload .entry))) ⌝ }
 {
-    rectangle::change::change_line(rows, columns, lines, row_table, column_table, n, payload)
+    change::change_line(rows, columns, lines, row_table, column_table, n, payload)
 }
 
 // Repair of the lines into `out` and `marks`, and its passes.

@@ -1,9 +1,9 @@
--- `rectangle::lines::alone_at` meets its contract.
+-- `change::alone_at` meets its contract.
 use borrow.Author.Needs.{needs}
 use mathlib.Core.Path.{ap, _∙_}
 use Rattle.linecode.specs.Entry.{reading}
-use Rattle.rectangle.proofs.lines.alone_at.Statement.{statement}
-use Rattle.rectangle.proofs.lines.alone_at.Tie as tie
+use Rattle.change.proofs.alone_at.Statement.{statement}
+use Rattle.change.proofs.alone_at.Tie as tie
 
 line-at-requires : tie.Need-line-at-requires
 line-at-requires c κs = search needs

@@ -1,4 +1,4 @@
--- `rectangle::change::refusal` meets its contract: each way out is one of the tests.
+-- `change::refusal` meets its contract: each way out is one of the tests.
 use mathlib.Core.Path.{_≡_, sym, _∙_}
 use mathlib.Core.Bool.{_&&_}
 use Prim.Native.Nat.{_/_, _%_}
@@ -6,13 +6,14 @@ use native.Mathlib.Omega.{arith}
 use borrow.Author.Needs.{needs}
 use borrow.Author.Tests.{eq-eqb, ne-eqb, lt-ltb, le-ltb, not-true, not-false}
 use Rattle.linecode.specs.Code.{isCorrect}
 use Rattle.rectangle.specs.Store.{placesAt}
 use Rattle.rectangle.specs.Refusals.{unless, acceptedAt, changeRefusal}
 use Rattle.rectangle.proofs.Area.{area}
 use Rattle.rectangle.proofs.Alone.{faulty-alone, accepted-alone}
-use Rattle.rectangle.proofs.Refusing.{SizesPass, sizes-passed, some-columns, line-room, row-room, column-room, changeTests, change-sizes, change-next}
-use Rattle.rectangle.proofs.change.refusal.Statement.{statement}
-use Rattle.rectangle.proofs.change.refusal.Tie as tie
+use Rattle.rectangle.proofs.Refusing.{SizesPass, sizes-passed}
+use Rattle.change.proofs.Refusing.{some-columns, line-room, row-room, column-room, changeTests, change-sizes, change-next}
+use Rattle.change.proofs.refusal.Statement.{statement}
+use Rattle.change.proofs.refusal.Tie as tie
 
 refusal-requires : tie.Need-refusal-requires
 refusal-requires c κs = search needs

@@ -1,23 +1,34 @@
-// Changing one line together with its two parity lines. Document 01, "The rectangle".
-use crate::lines::ColumnIndex;
-use crate::lines::RowIndex;
-use crate::lines::add_to_column;
-use crate::lines::add_to_row;
-use crate::lines::alone_at;
-use crate::lines::column_parity;
-use crate::lines::put_line;
-use crate::lines::row_parity;
-use crate::sizes;
-use single::alone;
+// Changing one line together with its two parity lines. Document 01, "The rectangle". It reads three lines and
+// writes one, so it goes by the tables that are compiled in; the rectangle below, which reads every line, lends a table.
+use linecode::alone::Reading;
 use linecode::place;
+use rectangle::lines::ColumnIndex;
+use rectangle::lines::RowIndex;
+use rectangle::lines::add_to_column;
+use rectangle::lines::add_to_row;
+use rectangle::lines::column_parity;
+use rectangle::lines::line_at;
+use rectangle::lines::put_line;
+use rectangle::lines::row_parity;
+use rectangle::sizes;
+use single::alone;
 ghost use mathlib.Core.Path.{_≡_};
 ghost use mathlib.Core.Bool.{_&&_};
 ghost use Prim.Native.Nat.{suc, _*_, _≤_};
 ghost use lib.ListN.{length};
 ghost use Rattle.linecode.specs.Code.{isCorrect};
-ghost use Rattle.rectangle.specs.Store.{placesAt};
+ghost use Rattle.linecode.specs.Entry.{reading};
+ghost use Rattle.rectangle.specs.Store.{bytesAt, placesAt};
 ghost use Rattle.rectangle.specs.Refusals.{changeRefusal};
 ghost use Rattle.rectangle.specs.Change.{LineChanged, changeLine};
+
+// Line n of a buffer as it reads alone.
+fn alone_at(buffer: &[u8], n: usize) -> Reading
+    requires { ⌜ suc n * 70 ≤ length (now buffer) ⌝ }
+    ensures { λ r. ⌜ r ≡ reading (bytesAt (now (buffer .entry)) n) ⌝ }
+{
+    alone::read_line(line_at(buffer, n))
+}
 
 // Whether the parity lines of a row and of a column are correct lines, spare bits apart.
 fn parities_correct(

@@ -12,23 +12,16 @@ use Rattle.linecode.proofs.Bytes.{length-bitsOf}
 use Rattle.linecode.proofs.Line.{data-is}
 use Rattle.linecode.proofs.Loading.{data-loaded}
 use Rattle.linecode.proofs.Codeword.{length-codeword}
 use Rattle.rectangle.specs.Store.{writeUnder, bytesAt, placesAt, putBytes, putLine, aloneAt}
-use Rattle.rectangle.specs.Change.{newLine, difference, addTo}
+use Rattle.rectangle.specs.Change.{newLine, difference}
 use Rattle.rectangle.proofs.Spare.{places-lineOf}
 use Rattle.rectangle.proofs.Alone.{length-alone}
 
 -- a parity line's test, made on its bytes
 pub correct-at : (table : List ℕ) (k : ℕ) (parity : List ℕ) (b : Bool) → parity ≡ bytesAt table k → b ≡ isCorrect (places parity)
     → isCorrect (placesAt table k) ≡ b
 unfolding placesAt
 correct-at table k parity b e f = sym (f ∙ ap (λ (l : List ℕ). isCorrect (places l)) e)
-
--- a line put into a parity line by exclusive or
-pub added : (table : List ℕ) (k : ℕ) (parity line sum new : List ℕ) → parity ≡ bytesAt table k
-    → sum ≡ lineOf (places parity ⊕ places line) → new ≡ putBytes table k sum → new ≡ addTo table k (places line)
-unfolding addTo putLine placesAt
-added table k parity line sum new e f g =
-    g ∙ ap (putBytes table k) (f ∙ ap (λ (p : List ℕ). lineOf (places p ⊕ places line)) e)
 
 -- ---- line n and its data
 module _ (lines : List ℕ) (n : ℕ) (payload : List ℕ) (whole : length payload ≡ 64) where

@@ -1,11 +1,11 @@
--- `rectangle::change::parities_correct` meets its contract.
+-- `change::parities_correct` meets its contract.
 use mathlib.Core.Path.{_≡_, sym, _∙_}
 use Rattle.linecode.specs.Code.{isCorrect}
 use borrow.Author.Needs.{needs}
 use Rattle.rectangle.specs.Store.{placesAt}
-use Rattle.rectangle.proofs.Changing.{correct-at}
-use Rattle.rectangle.proofs.change.parities_correct.Statement.{statement}
-use Rattle.rectangle.proofs.change.parities_correct.Tie as tie
+use Rattle.change.proofs.Changing.{correct-at}
+use Rattle.change.proofs.parities_correct.Statement.{statement}
+use Rattle.change.proofs.parities_correct.Tie as tie
 
 row-parity-requires : tie.Need-row-parity-requires
 row-parity-requires c κs = search needs

@@ -1,15 +1,15 @@
--- `rectangle::change::change_line` meets its contract: a refusal, or the line and its two parity lines written.
+-- `change::change_line` meets its contract: a refusal, or the line and its two parity lines written.
 use mathlib.Core.Path.{_≡_, sym, ap, _∙_}
 use Prim.Native.Nat.{ℕ, _/_, _%_}
 use borrow.Author.Needs.{needs}
 use Rattle.linecode.specs.Places.{places, lineOf}
 use Rattle.rectangle.specs.Refusals.{changeRefusal}
 use Rattle.rectangle.specs.Change.{newLine, difference, addTo}
 use Rattle.rectangle.proofs.Alone.{line-alone}
-use Rattle.rectangle.proofs.Refusing.{some-columns, line-room, row-room, column-room, ChangePass, change-passed, change-refused, change-made}
-use Rattle.rectangle.proofs.Changing.{new-line, put-new, both-places}
-use Rattle.rectangle.proofs.change.change_line.Statement.{statement}
-use Rattle.rectangle.proofs.change.change_line.Tie as tie
+use Rattle.change.proofs.Refusing.{some-columns, line-room, row-room, column-room, ChangePass, change-passed, change-refused, change-made}
+use Rattle.change.proofs.Changing.{new-line, put-new, both-places}
+use Rattle.change.proofs.change_line.Statement.{statement}
+use Rattle.change.proofs.change_line.Tie as tie
 
 refusal-requires : tie.Need-refusal-requires
 refusal-requires c κs = search needs
