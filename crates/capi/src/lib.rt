@@ -19,7 +19,7 @@ pub extern "C" fn sudoku_write_line(payload: &[u8], line: &mut [u8]) -> u32
     if line.len() != 70 {
         return 7;
     }
-    let written = linecode::write(payload);
+    let written = single::write(payload);
     let answer = written.answer;
     if answer != 0 {
         return answer;
@@ -43,7 +43,7 @@ pub extern "C" fn sudoku_read_line(line: &[u8], out: &mut [u8], mark: &mut u8) -
     if out.len() != 70 {
         return 7;
     }
-    let read = linecode::read(line);
+    let read = single::read(line);
     let bytes = read.line;
     lines::put_line(out, 0, bytes);
     *mark = read.mark;
@@ -87,7 +87,7 @@ pub extern "C" fn sudoku_change_line(
         (changeLine rows columns (now (lines .entry)) (now («row_table» .entry)) (now («column_table» .entry)) n
         (now (payload .entry))) ⌝ }
 {
-    rectangle::change::change_line(rows, columns, lines, row_table, column_table, n, payload)
+    change::change_line(rows, columns, lines, row_table, column_table, n, payload)
 }
 
 // Repair of the lines into `out` and `marks`, and its passes.

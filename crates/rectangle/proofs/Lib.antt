@@ -4,6 +4,7 @@ pub mod Stride
 pub mod Spare
 pub mod Buffer
 pub mod Copying
+pub mod Adding
 pub mod Groups
 pub mod Area
 pub mod Alone
@@ -16,7 +17,6 @@ pub mod Refusing
 pub mod Summing
 pub mod SweepingRow
 pub mod Sweeping
-pub mod Changing
 -- The demands: read Kept last.
 pub mod Writing
 pub mod Parity

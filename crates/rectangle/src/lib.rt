@@ -1,5 +1,4 @@
 // A rectangle of lines with a parity line for each row and column. Document 01, "The rectangle".
-pub mod change;
 pub mod lines;
 pub mod sizes;
 pub mod tables;

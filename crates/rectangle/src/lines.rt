@@ -1,8 +1,8 @@
 // Lines in a lent buffer. The functions of this module are public because the crates above go through them alone; each asks that
 // the line lies inside the buffer, which the entry points have tested.
-use linecode::alone;
 use linecode::alone::Reading;
 use linecode::place;
+use single::alone;
 ghost use mathlib.Core.Path.{_≡_};
 ghost use Prim.Native.Nat.{suc, _*_, _≤_};
 ghost use lib.ListN.{length};
@@ -58,15 +58,7 @@ pub fn column_parity(column_table: &[u8], column: ColumnIndex) -> [u8; 70]
     line_at(column_table, c)
 }
 
-// Line n of a buffer as it reads alone.
-pub fn alone_at(buffer: &[u8], n: usize) -> Reading
-    requires { ⌜ suc n * 70 ≤ length (now buffer) ⌝ }
-    ensures { λ r. ⌜ r ≡ reading (bytesAt (now (buffer .entry)) n) ⌝ }
-{
-    alone::read_line(line_at(buffer, n))
-}
-
-// The same with the CRC's table lent, for many lines.
+// Line n of a buffer as it reads alone, with the CRC's table lent, for many lines.
 pub fn alone_by(slices: &[u32; 4096], buffer: &[u8], n: usize) -> Reading
     requires { ⌜ (now slices ≡ sliceTable) × (suc n * 70 ≤ length (now buffer)) ⌝ }
     ensures { λ r. ⌜ r ≡ reading (bytesAt (now (buffer .entry)) n) ⌝ }

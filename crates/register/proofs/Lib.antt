@@ -2,4 +2,3 @@ pub mod Bytes
 pub mod Slicing
 pub mod TableRule
 pub mod Feeding
-pub mod Compiled

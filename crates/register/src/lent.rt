@@ -1,4 +1,4 @@
-// The register by a table that the caller lends. Public for the line code, which passes the table on; not an
+// The register by a table that the caller lends. Public for the crate `single`, which passes the table on; not an
 // entry point.
 use crate::words;
 ghost use mathlib.Core.Path.{_≡_};

@@ -7,11 +7,11 @@ ghost use Rattle.linecode.specs.Places.{lineOf};
 ghost use Rattle.linecode.specs.Code.{upFrom, isCorrect};
 ghost use Rattle.rectangle.specs.Store.{placesAt, bytesAt};
 ghost use Rattle.rectangle.specs.Refusals.{every};
-use linecode::alone;
 use linecode::place;
 use rectangle::lines;
 use rectangle::lines::ColumnIndex;
 use rectangle::lines::RowIndex;
+use single::alone;
 
 // Whether each row's parity line is a correct line.
 pub fn rows_correct(rows: usize, row_table: &[u8]) -> bool

@@ -11,9 +11,9 @@ ghost use Rattle.scheme.specs.Repair.{readAll};
 ghost use Rattle.rectangle.specs.Store.{lineLayer, linesIn};
 ghost use Rattle.repair.specs.Lent.{Room, ReadUpTo, ReadsOn, Tracked, Carried};
 use crate::group;
-use linecode::alone;
 use linecode::place;
 use rectangle::lines;
+use single::alone;
 
 // Each line of row r is read alone into the line buffer, its mark into the mark buffer, and added to its row's and its column's difference.
 // The row's own is carried by value, since every line of the row changes it.

@@ -13,9 +13,9 @@ ghost use Rattle.repair.specs.Lent.{Ready, Carried, Makes, Numbered, gro
 use crate::group;
 use crate::group::Chosen;
 use crate::group::Places;
-use linecode::alone;
 use linecode::place;
 use rectangle::lines;
+use single::alone;
 
 // A faulty line is mended: the new line and its mark are written, and its row and its column learn of the change and have one faulty line less.
 pub fn mend(

@@ -1,6 +1,6 @@
 -- `rectangle::lines::add_to_column` meets its contract.
 use borrow.Author.Needs.{needs}
-use Rattle.rectangle.proofs.Changing.{added}
+use Rattle.rectangle.proofs.Adding.{added}
 use Rattle.rectangle.proofs.lines.add_to_column.Statement.{statement}
 use Rattle.rectangle.proofs.lines.add_to_column.Tie as tie
 

@@ -1,0 +1,93 @@
+-- What changing a line refuses, past the tests of the sizes, and what it leaves.
+use mathlib.Core.Path.{_≡_, ap, ap₂, _∙_}
+use mathlib.Core.Bool.{_&&_}
+use mathlib.Core.List.{List}
+use Prim.Native.Nat.{ℕ, suc, _*_, _/_, _%_, _≤_, _<_}
+use native.Mathlib.Nat.{mul-le-mul-right}
+use native.Mathlib.Omega.{arith}
+use borrow.Author.Tests.{eqb-true, ltb-true, ne-eqb}
+use lib.Dec.{eqb, ltb}
+use lib.ListN.{length}
+use Rattle.linecode.specs.Places.{dataBytes}
+use Rattle.linecode.specs.Code.{isCorrect}
+use Rattle.rectangle.specs.Store.{correctUnder, placesAt, putLine}
+use Rattle.rectangle.specs.Refusals.{unless, parityCorrect, acceptedAt, changeRefusal}
+use Rattle.rectangle.specs.Change.{newLine, difference, addTo, LineChanged, changeLine}
+use Rattle.rectangle.proofs.Groups.{sides, row-below, column-below}
+use Rattle.rectangle.proofs.Area.{line-bytes}
+use Rattle.rectangle.proofs.Tests.{passed}
+use Rattle.rectangle.proofs.Refusing.{sizeTests, sizes-refused, sizes-then, sizes-next, SizesPass}
+
+module _ (rows columns : ℕ) (lines rowTable columnTable : List ℕ) where
+  -- a line of the rectangle and its two parity lines lie inside the buffers
+  module _ (p : SizesPass rows columns lines rowTable columnTable) (n : ℕ) (inside : n < rows * columns) where
+    pub some-columns : 0 < columns
+    some-columns = omega (arith, sides rows columns (p .sides))
+
+    pub line-room : suc n * 70 ≤ length lines
+    line-room = line-bytes rows columns (length lines) (omega (arith, p .lineBytes)) n inside
+
+    pub row-room : suc (n / columns) * 70 ≤ length rowTable
+    row-room =
+        let last : suc (n / columns) * 70 ≤ rows * 70 = mul-le-mul-right 70 (row-below rows columns some-columns n inside) in
+        omega (arith, p .rowBytes)
+
+    pub column-room : suc (n % columns) * 70 ≤ length columnTable
+    column-room =
+        let last : suc (n % columns) * 70 ≤ columns * 70 = mul-le-mul-right 70 (column-below rows columns some-columns n) in
+        omega (arith, p .columnBytes)
+
+  module _ (n : ℕ) (payload : List ℕ) where
+    -- what is tested past the sizes
+    abbrev pub changeTests : ℕ
+    changeTests =
+        unless (eqb (length payload) 64) 7
+        (unless (ltb n (rows * columns)) 8
+        (unless (isCorrect (placesAt rowTable (n / columns)) && isCorrect (placesAt columnTable (n % columns))) 9
+        (unless (acceptedAt lines n) 10 0)))
+
+    pub change-sizes : (r : ℕ) → r ≡ sizeTests rows columns lines rowTable columnTable → (r ≡ 0 → ⊥) → changeRefusal rows columns lines rowTable columnTable n payload ≡ r
+    unfolding changeRefusal
+    change-sizes r e d = sizes-refused rows columns lines rowTable columnTable r _ e d
+
+    pub change-next : SizesPass rows columns lines rowTable columnTable → changeRefusal rows columns lines rowTable columnTable n payload ≡ changeTests
+    unfolding changeRefusal dataBytes parityCorrect correctUnder
+    change-next p = sizes-next rows columns lines rowTable columnTable p _
+
+    -- nothing refused
+    pub record ChangePass : Type 0 where
+      pub sizes : SizesPass rows columns lines rowTable columnTable
+      pub payloadBytes : length payload ≡ 64
+      pub inside : n < rows * columns
+
+    pub change-passed : changeRefusal rows columns lines rowTable columnTable n payload ≡ 0 → ChangePass
+    unfolding changeRefusal dataBytes
+    change-passed e =
+        let six = sizes-then rows columns lines rowTable columnTable _ e in
+        let seven = passed (eqb (length payload) 64) 7 _ (λ y. omega arith) (six .1) in
+        let eight = passed (ltb n (rows * columns)) 8 _ (λ y. omega arith) (seven .1) in
+        record { sizes = six .0; payloadBytes = eqb-true _ _ (seven .0); inside = ltb-true _ _ (eight .0) }
+
+    -- a refusal writes nothing
+    pub change-refused : (r : ℕ) → changeRefusal rows columns lines rowTable columnTable n payload ≡ r → (r ≡ 0 → ⊥)
+        → _≡_ {A = LineChanged} (record { answer = r; lines = lines; rowTable = rowTable; columnTable = columnTable })
+        (changeLine rows columns lines rowTable columnTable n payload)
+    unfolding changeLine
+    change-refused r e d = rw (e, ne-eqb r 0 d)
+
+    pub change-made : (newLines newRows newColumns : List ℕ) → changeRefusal rows columns lines rowTable columnTable n payload ≡ 0
+        → newLines ≡ putLine lines n (newLine n payload)
+        → newRows ≡ addTo rowTable (n / columns) (difference lines n payload)
+        → newColumns ≡ addTo columnTable (n % columns) (difference lines n payload)
+        → _≡_ {A = LineChanged} (record { answer = 0; lines = newLines; rowTable = newRows; columnTable = newColumns })
+        (changeLine rows columns lines rowTable columnTable n payload)
+    unfolding changeLine
+    change-made newLines newRows newColumns e f g h =
+        ap (λ (a : List ℕ). record { answer = 0; lines = a; rowTable = newRows; columnTable = newColumns }) f
+        ∙ ap₂ (λ (a b : List ℕ). record {
+          answer = 0;
+          lines = putLine lines n (newLine n payload);
+          rowTable = a;
+          columnTable = b;
+        }) g h
+        ∙ rw e

@@ -1,0 +1,117 @@
+-- `change::refusal` meets its contract: each way out is one of the tests.
+use mathlib.Core.Path.{_≡_, sym, _∙_}
+use mathlib.Core.Bool.{_&&_}
+use Prim.Native.Nat.{_/_, _%_}
+use native.Mathlib.Omega.{arith}
+use borrow.Author.Needs.{needs}
+use borrow.Author.Tests.{eq-eqb, ne-eqb, lt-ltb, le-ltb, not-true, not-false}
+use Rattle.linecode.specs.Code.{isCorrect}
+use Rattle.rectangle.specs.Store.{placesAt}
+use Rattle.rectangle.specs.Refusals.{unless, acceptedAt, changeRefusal}
+use Rattle.rectangle.proofs.Area.{area}
+use Rattle.rectangle.proofs.Alone.{faulty-alone, accepted-alone}
+use Rattle.rectangle.proofs.Refusing.{SizesPass, sizes-passed}
+use Rattle.change.proofs.Refusing.{some-columns, line-room, row-room, column-room, changeTests, change-sizes, change-next}
+use Rattle.change.proofs.refusal.Statement.{statement}
+use Rattle.change.proofs.refusal.Tie as tie
+
+refusal-requires : tie.Need-refusal-requires
+refusal-requires c κs = search needs
+
+returns : tie.Need-returns
+returns c =
+    let a = c .before .before .before .before .before .before .args in
+    sym (change-sizes (a .rows) (a .columns) (a .lines .now) (a .row-table .now) (a .column-table .now) (a .n) (a .payload .now) _
+    (c .before .refusal .ensures) (c .if1 .taken))
+
+-- past the first test the sizes fit
+fit : (c : tie.Else1)
+    → let a = c .before .before .before .before .before .before .args in
+    SizesPass (a .rows) (a .columns) (a .lines .now) (a .row-table .now) (a .column-table .now)
+fit c =
+    let a = c .before .before .before .before .before .before .args in
+    sizes-passed (a .rows) (a .columns) (a .lines .now) (a .row-table .now) (a .column-table .now) _
+    (c .before .refusal .ensures) (c .if1 .left)
+
+-- so that the tests past the sizes decide
+next : (c : tie.Else1)
+    → let a = c .before .before .before .before .before .before .args in
+    changeTests (a .rows) (a .columns) (a .lines .now) (a .row-table .now) (a .column-table .now) (a .n) (a .payload .now)
+    ≡ changeRefusal (a .rows) (a .columns) (a .lines .now) (a .row-table .now) (a .column-table .now) (a .n) (a .payload .now)
+next c =
+    let a = c .before .before .before .before .before .before .args in
+    sym (change-next (a .rows) (a .columns) (a .lines .now) (a .row-table .now) (a .column-table .now) (a .n) (a .payload .now) (fit c))
+
+returns-2 : tie.Need-returns-2
+returns-2 c = rw (← next (c .before), ne-eqb _ 64 (c .if2 .taken))
+
+mul-if3 : tie.Need-mul-if3
+mul-if3 c = omega (arith, area _ _ (fit (c .before) .sides))
+
+returns-3 : tie.Need-returns-3
+returns-3 c = rw (← next (c .before .before), eq-eqb _ 64 (c .before .if2 .left), le-ltb _ _ (c .if3 .taken))
+
+-- past refusals 7 and 8 the definition tests the parity lines and then the line
+left : (c : tie.Else3)
+    → let a = c .before .before .before .before .before .before .before .before .args in
+    unless (isCorrect (placesAt (a .row-table .now) (a .n / a .columns)) && isCorrect (placesAt (a .column-table .now) (a .n % a .columns))) 9
+    (unless (acceptedAt (a .lines .now) (a .n)) 10 0)
+    ≡ changeRefusal (a .rows) (a .columns) (a .lines .now) (a .row-table .now) (a .column-table .now) (a .n) (a .payload .now)
+left c = rw (← next (c .before .before), eq-eqb _ 64 (c .before .if2 .left), lt-ltb _ _ (c .if3 .left))
+
+div-r : tie.Need-div-r
+div-r c = some-columns _ _ _ _ _ (fit (c .before .before)) _ (c .if3 .left)
+
+rem-c : tie.Need-rem-c
+rem-c c = some-columns _ _ _ _ _ (fit (c .before .before)) _ (c .if3 .left)
+
+parities-correct-requires : tie.Need-parities-correct-requires
+parities-correct-requires c κs =
+    let p = fit (c .before .before) in
+    (row-room _ _ _ _ _ p _ (c .if3 .left), column-room _ _ _ _ _ p _ (c .if3 .left))
+
+alone-at-requires : tie.Need-alone-at-requires
+alone-at-requires c κs = line-room _ _ _ _ _ (fit (c .before .before .before)) _ (c .before .if3 .left)
+
+returns-4 : tie.Need-returns-4
+returns-4 c =
+    let parities = c .before .before in
+    rw (← left (parities .before), sym (parities .parities-correct .ensures) ∙ not-true _ (c .if4 .taken))
+
+-- past refusal 9 the definition tests the line
+last : (c : tie.Else4)
+    → let a = c .before .before .before .before .before .before .before .before .before .before .before .args in
+    unless (acceptedAt (a .lines .now) (a .n)) 10 0
+    ≡ changeRefusal (a .rows) (a .columns) (a .lines .now) (a .row-table .now) (a .column-table .now) (a .n) (a .payload .now)
+last c =
+    let parities = c .before .before in
+    rw (← left (parities .before), sym (parities .parities-correct .ensures) ∙ not-false _ (c .if4 .left))
+
+returns-5 : tie.Need-returns-5
+returns-5 c =
+    let a = c .before .before .before .before .before .before .before .before .before .before .before .before .args in
+    let read = c .before .before .alone-at in
+    rw (← last (c .before), faulty-alone (a .lines .now) (a .n) (read .result) (read .ensures) (c .if5 .taken))
+
+returns-6 : tie.Need-returns-6
+returns-6 c =
+    let a = c .before .before .before .before .before .before .before .before .before .before .before .before .args in
+    let read = c .before .before .alone-at in
+    rw (← last (c .before), accepted-alone (a .lines .now) (a .n) (read .result) (read .ensures) (c .if5 .left))
+
+pub refusal-spec : {M : Type 1} → statement M
+refusal-spec =
+    tie.close
+    (tie.spec
+    refusal-requires
+    returns
+    returns-2
+    mul-if3
+    returns-3
+    div-r
+    rem-c
+    parities-correct-requires
+    alone-at-requires
+    returns-4
+    returns-5
+    returns-6)

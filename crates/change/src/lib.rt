@@ -1,0 +1,129 @@
+// Changing one line together with its two parity lines. Document 01, "The rectangle". It reads three lines and
+// writes one, so it goes by the tables that are compiled in; the rectangle below, which reads every line, lends a table.
+use linecode::alone::Reading;
+use linecode::place;
+use rectangle::lines::ColumnIndex;
+use rectangle::lines::RowIndex;
+use rectangle::lines::add_to_column;
+use rectangle::lines::add_to_row;
+use rectangle::lines::column_parity;
+use rectangle::lines::line_at;
+use rectangle::lines::put_line;
+use rectangle::lines::row_parity;
+use rectangle::sizes;
+use single::alone;
+ghost use mathlib.Core.Path.{_≡_};
+ghost use mathlib.Core.Bool.{_&&_};
+ghost use Prim.Native.Nat.{suc, _*_, _≤_};
+ghost use lib.ListN.{length};
+ghost use Rattle.linecode.specs.Code.{isCorrect};
+ghost use Rattle.linecode.specs.Entry.{reading};
+ghost use Rattle.rectangle.specs.Store.{bytesAt, placesAt};
+ghost use Rattle.rectangle.specs.Refusals.{changeRefusal};
+ghost use Rattle.rectangle.specs.Change.{LineChanged, changeLine};
+
+// Line n of a buffer as it reads alone.
+fn alone_at(buffer: &[u8], n: usize) -> Reading
+    requires { ⌜ suc n * 70 ≤ length (now buffer) ⌝ }
+    ensures { λ r. ⌜ r ≡ reading (bytesAt (now (buffer .entry)) n) ⌝ }
+{
+    alone::read_line(line_at(buffer, n))
+}
+
+// Whether the parity lines of a row and of a column are correct lines, spare bits apart.
+fn parities_correct(
+    row_table: &[u8],
+    row: RowIndex,
+    column_table: &[u8],
+    column: ColumnIndex,
+) -> bool
+    requires { ⌜ (suc (row .0) * 70 ≤ length (now «row_table»)) × (suc (column .0) * 70 ≤ length (now «column_table»)) ⌝ }
+    ensures { λ r. ⌜ r
+        ≡ isCorrect (placesAt (now («row_table» .entry)) (row .0))
+        && isCorrect (placesAt (now («column_table» .entry)) (column .0)) ⌝ }
+{
+    let of_row = alone::is_correct(row_parity(row_table, row));
+    let of_column = alone::is_correct(column_parity(column_table, column));
+    of_row && of_column
+}
+
+// The first refusal that fits, or 0: only the line's own two parity lines are tested for 9, and the line alone for 10.
+fn refusal(
+    rows: usize,
+    columns: usize,
+    lines: &[u8],
+    row_table: &[u8],
+    column_table: &[u8],
+    n: usize,
+    payload: &[u8],
+) -> u32
+    ensures { λ r. ⌜ r
+        ≡ changeRefusal rows columns (now (lines .entry)) (now («row_table» .entry)) (now («column_table» .entry)) n
+        (now (payload .entry)) ⌝ }
+{
+    let refused = sizes::refusal(
+        rows,
+        columns,
+        lines.len(),
+        row_table.len(),
+        column_table.len(),
+    );
+    if refused != 0 {
+        return refused;
+    }
+    if payload.len() != 64 {
+        return 7;
+    }
+    if rows * columns <= n {
+        return 8;
+    }
+    // What refusals 9 and 10 ask, and then both in their order.
+    let r = n / columns;
+    let c = n % columns;
+    let correct = parities_correct(row_table, RowIndex(r), column_table, ColumnIndex(c));
+    let read = alone_at(lines, n);
+    let mark = read.mark;
+    if !correct {
+        return 9;
+    }
+    if mark == 4 {
+        return 10;
+    }
+    0
+}
+
+// Line n written anew from 64 data bytes: 0, or the first refusal that fits, which writes nothing.
+pub fn change_line(
+    rows: usize,
+    columns: usize,
+    lines: &mut [u8],
+    row_table: &mut [u8],
+    column_table: &mut [u8],
+    n: usize,
+    payload: &[u8],
+) -> u32
+    ensures { λ r. ⌜ _≡_ {A = LineChanged}
+        (record {
+          answer = r;
+          lines = now (lines .exit);
+          rowTable = now («row_table» .exit);
+          columnTable = now («column_table» .exit);
+        })
+        (changeLine rows columns (now (lines .entry)) (now («row_table» .entry)) (now («column_table» .entry)) n
+        (now (payload .entry))) ⌝ }
+{
+    let answer = refusal(rows, columns, lines, row_table, column_table, n, payload);
+    if answer != 0 {
+        return answer;
+    }
+    let read = alone_at(lines, n);
+    let old = read.line;
+    let new = alone::rewrite(place::load(payload));
+    let both = place::xor_lines(old, new);
+    put_line(lines, n, new);
+    let r = n / columns;
+    add_to_row(row_table, RowIndex(r), both);
+    let c = n % columns;
+    add_to_column(column_table, ColumnIndex(c), both);
+    0
+}

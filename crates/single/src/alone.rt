@@ -1,0 +1,98 @@
+// Writing a line, and reading one alone (document 000, III-C).
+use crate::crc;
+use linecode::alone::Reading;
+use linecode::hamming;
+use linecode::hamming::Answer;
+use linecode::place;
+ghost use mathlib.Core.Path.{_≡_};
+ghost use mathlib.Core.Bool.{false};
+ghost use Rattle.linecode.specs.Places.{places, lineOf};
+ghost use Rattle.linecode.specs.Code.{dataOf, codeword, accepted, isCorrect};
+ghost use Rattle.linecode.specs.Reading.{readAlone};
+ghost use Rattle.linecode.specs.Corrector.{afterCorrector};
+ghost use Rattle.linecode.specs.Entry.{written, reading};
+ghost use Rattle.register.specs.Slices.{sliceTable};
+
+// A line with its CRC and its Hamming bits written afresh from its data.
+pub fn rewrite(line: [u8; 70]) -> [u8; 70]
+    ensures { λ r. ⌜ r ≡ lineOf (codeword (dataOf (places line))) ⌝ }
+{
+    hamming::append(crc::append(line))
+}
+
+// A line written from 64 data bytes.
+pub fn write_line(payload: [u8; 64]) -> [u8; 70]
+    ensures { λ r. ⌜ r ≡ written payload ⌝ }
+{
+    rewrite(place::load(&payload))
+}
+
+// The protected place whose flip makes a line's word divisible, as the corrector finds it, or 543. A number, so that where a line is
+// read nothing of a hurt line stands in the way of a clean one.
+fn flip_of(line: [u8; 70]) -> usize
+    requires { ⌜ accepted (places line) ≡ false ⌝ }
+    ensures { λ i. ⌜ readAlone (places line) ≡ afterCorrector i (places line) ⌝ }
+{
+    let Answer::Protected(i) = hamming::answer_to(hamming::syndrome_of(line)) else {
+        return 543;
+    };
+    if crc::agrees(place::flip_place(line, i)) {
+        return i;
+    }
+    543
+}
+
+// A line whose protected word is not divisible, read alone: the corrector, then the CRC compared once more.
+fn read_hurt(line: [u8; 70]) -> Reading
+    requires { ⌜ accepted (places line) ≡ false ⌝ }
+    ensures { λ r. ⌜ r ≡ reading line ⌝ }
+{
+    let i = flip_of(line);
+    if i < 543 {
+        return Reading {
+            line: hamming::append(place::flip_place(line, i)),
+            mark: 1,
+        };
+    }
+    Reading {
+        line: place::clear_spare(line),
+        mark: 4,
+    }
+}
+
+// A line read alone: the CRC compared, and where it differs the corrector.
+pub fn read_line(line: [u8; 70]) -> Reading
+    ensures { λ r. ⌜ r ≡ reading line ⌝ }
+{
+    if crc::agrees(line) {
+        return Reading {
+            line: hamming::append(line),
+            mark: 0,
+        };
+    }
+    read_hurt(line)
+}
+
+// The same with a lent table, for many lines. Public for the crates above, which bind the table; not an entry point.
+pub fn read_by(slices: &[u32; 4096], line: [u8; 70]) -> Reading
+    requires { ⌜ now slices ≡ sliceTable ⌝ }
+    ensures { λ r. ⌜ r ≡ reading line ⌝ }
+{
+    if crc::agrees_by(slices, line) {
+        return Reading {
+            line: hamming::append(line),
+            mark: 0,
+        };
+    }
+    read_hurt(line)
+}
+
+// Whether the places of a line are what writing its data gives.
+pub fn is_correct(line: [u8; 70]) -> bool
+    ensures { λ r. ⌜ r ≡ isCorrect (places line) ⌝ }
+{
+    if crc::agrees(line) {
+        return hamming::position_sum(line) == hamming::stored(line);
+    }
+    false
+}
