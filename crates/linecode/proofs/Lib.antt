@@ -8,6 +8,7 @@ pub mod Linear
 pub mod WordBytes
 pub mod WordSums
 pub mod Syndrome
+pub mod CrcRegister
 pub mod Codeword
 pub mod ReadAlone
 pub mod Lines

@@ -1,4 +1,3 @@
--- Laws of the tables that are compiled in, of the CRC by the register, and of the entry points.
+-- Laws of the tables that are compiled in, and of the entry points.
 pub mod Compiled
-pub mod CrcRegister
 pub mod Entry

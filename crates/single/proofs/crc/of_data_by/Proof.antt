@@ -2,7 +2,7 @@
 use native.Mathlib.Omega.{arith}
 use borrow.Author.Needs.{needs}
 use Rattle.linecode.proofs.Bytes.{array-length}
-use Rattle.single.proofs.CrcRegister.{crc-after}
+use Rattle.linecode.proofs.CrcRegister.{crc-after}
 use Rattle.single.proofs.crc.of_data_by.Statement.{statement}
 use Rattle.single.proofs.crc.of_data_by.Tie as tie
 
