@@ -14,6 +14,7 @@ pub mod Runs
 pub mod Refused
 pub mod Refusing
 pub mod Summing
+pub mod Pieces
 pub mod SweepingRow
 pub mod Sweeping
 pub mod Changing

@@ -8,7 +8,6 @@ ghost use Prim.Native.Nat.{suc, _*_, _≤_};
 ghost use lib.ListN.{length};
 ghost use Rattle.linecode.specs.Places.{places, xorBytes};
 ghost use Rattle.linecode.specs.Entry.{reading};
-ghost use Rattle.register.specs.Slices.{sliceTable};
 ghost use Rattle.sweep.specs.Table.{lineTable};
 ghost use Rattle.rectangle.specs.Store.{bytesAt, putBytes};
 ghost use Rattle.rectangle.specs.Change.{addTo};
@@ -65,14 +64,6 @@ pub fn alone_at(buffer: &[u8], n: usize) -> Reading
     ensures { λ r. ⌜ r ≡ reading (bytesAt (now (buffer .entry)) n) ⌝ }
 {
     alone::read_line(line_at(buffer, n))
-}
-
-// The same with the CRC's table lent, for many lines.
-pub fn alone_by(slices: &[u32; 4096], buffer: &[u8], n: usize) -> Reading
-    requires { ⌜ (now slices ≡ sliceTable) × (suc n * 70 ≤ length (now buffer)) ⌝ }
-    ensures { λ r. ⌜ r ≡ reading (bytesAt (now (buffer .entry)) n) ⌝ }
-{
-    alone::read_by(slices, line_at(buffer, n))
 }
 
 // Line n of a buffer as it reads alone, written as line m of another: its mark. An untouched line is copied and its last bytes are stored
