@@ -148,7 +148,7 @@ putLine-bufferOf (v ∷ ws) (suc n) w h =
     ∙ ap (λ (a : List ℕ). lineOf v ++ a) (putLine-bufferOf ws n w (le-of-suc-le-suc h))
 
 -- ---- one line written into a buffer of k lines
-module _ (k : ℕ) (buffer : List ℕ) (whole : length buffer ≡ k * lineBytes) (n : ℕ) (inside : n < k) (w : Word) where
+module _ (k : ℕ) (buffer : List ℕ) (whole : length buffer ≡ k * lineBytes) (n : ℕ) (inside : n < k) where
   front : List ℕ
   front = take (n * lineBytes) buffer
 
@@ -156,70 +156,85 @@ module _ (k : ℕ) (buffer : List ℕ) (whole : length buffer ≡ k * lineBytes)
   unfolding front
   length-front = length-take-le (n * lineBytes) buffer (omega (arith, lines-le (suc n) k inside, suc-mul n lineBytes))
 
-  length-both : length (front ++ lineOf w) ≡ suc n * lineBytes
-  length-both =
-      length-append front (lineOf w) ∙ ap₂ _+_ length-front (length-lineOf w) ∙ omega (arith, suc-mul n lineBytes)
+  -- any bytes, as many as a line has
+  module _ (line : List ℕ) (full : length line ≡ lineBytes) where
+    length-both : length (front ++ line) ≡ suc n * lineBytes
+    length-both = length-append front line ∙ ap₂ _+_ length-front full ∙ omega (arith, suc-mul n lineBytes)
 
-  pub length-putLine : length (putLine buffer n w) ≡ k * lineBytes
-  unfolding putLine putBytes front
-  length-putLine =
-      length-append (front ++ lineOf w) (drop (suc n * lineBytes) buffer)
-      ∙ ap₂ _+_ length-both (length-drop (suc n * lineBytes) buffer)
-      ∙ omega (arith, lines-le (suc n) k inside)
+    pub length-putBytes : length (putBytes buffer n line) ≡ k * lineBytes
+    unfolding putBytes front
+    length-putBytes =
+        length-append (front ++ line) (drop (suc n * lineBytes) buffer)
+        ∙ ap₂ _+_ length-both (length-drop (suc n * lineBytes) buffer)
+        ∙ omega (arith, lines-le (suc n) k inside)
 
-  -- the other bytes keep their values
-  pub byte-before : (i : ℕ) → i < n * lineBytes → getD (putLine buffer n w) i 0 ≡ getD buffer i 0
-  unfolding putLine putBytes front
-  byte-before i h =
-      List·getD-append (front ++ lineOf w) (drop (suc n * lineBytes) buffer) 0 i
-      (omega (arith, length-both, suc-mul n lineBytes))
-      ∙ List·getD-append front (lineOf w) 0 i (omega (arith, length-front))
-      ∙ getD-take (n * lineBytes) buffer i 0 h
+    -- the other bytes keep their values
+    byte-before : (i : ℕ) → i < n * lineBytes → getD (putBytes buffer n line) i 0 ≡ getD buffer i 0
+    unfolding putBytes front
+    byte-before i h =
+        List·getD-append (front ++ line) (drop (suc n * lineBytes) buffer) 0 i
+        (omega (arith, length-both, suc-mul n lineBytes))
+        ∙ List·getD-append front line 0 i (omega (arith, length-front))
+        ∙ getD-take (n * lineBytes) buffer i 0 h
 
-  pub byte-after : (i : ℕ) → suc n * lineBytes ≤ i → getD (putLine buffer n w) i 0 ≡ getD buffer i 0
-  unfolding putLine putBytes front
-  byte-after i h =
-      let e : i ≡ length (front ++ lineOf w) + (i - suc n * lineBytes) = omega (arith, length-both) in
-      let f : suc n * lineBytes + (i - suc n * lineBytes) ≡ i = omega arith in
-      ap (λ (j : ℕ). getD (putLine buffer n w) j 0) e
-      ∙ getD-append-add (front ++ lineOf w) (drop (suc n * lineBytes) buffer) (i - suc n * lineBytes) 0
-      ∙ getD-drop (suc n * lineBytes) buffer (i - suc n * lineBytes) 0
-      ∙ ap (λ (j : ℕ). getD buffer j 0) f
+    byte-after : (i : ℕ) → suc n * lineBytes ≤ i → getD (putBytes buffer n line) i 0 ≡ getD buffer i 0
+    unfolding putBytes front
+    byte-after i h =
+        let e : i ≡ length (front ++ line) + (i - suc n * lineBytes) = omega (arith, length-both) in
+        let f : suc n * lineBytes + (i - suc n * lineBytes) ≡ i = omega arith in
+        ap (λ (j : ℕ). getD (putBytes buffer n line) j 0) e
+        ∙ getD-append-add (front ++ line) (drop (suc n * lineBytes) buffer) (i - suc n * lineBytes) 0
+        ∙ getD-drop (suc n * lineBytes) buffer (i - suc n * lineBytes) 0
+        ∙ ap (λ (j : ℕ). getD buffer j 0) f
 
-  pub bytesAt-put : bytesAt (putLine buffer n w) n ≡ lineOf w
-  unfolding bytesAt putLine putBytes front
-  bytesAt-put =
-      ap (λ (l : List ℕ). take lineBytes (drop (n * lineBytes) l)) (append-assoc front (lineOf w) (drop (suc n * lineBytes) buffer))
-      ∙ ap (take lineBytes) (drop-at front (lineOf w ++ drop (suc n * lineBytes) buffer) (n * lineBytes) length-front)
-      ∙ take-at (lineOf w) (drop (suc n * lineBytes) buffer) lineBytes (length-lineOf w)
+    pub bytesAt-putBytes : bytesAt (putBytes buffer n line) n ≡ line
+    unfolding bytesAt putBytes front
+    bytesAt-putBytes =
+        ap (λ (l : List ℕ). take lineBytes (drop (n * lineBytes) l)) (append-assoc front line (drop (suc n * lineBytes) buffer))
+        ∙ ap (take lineBytes) (drop-at front (line ++ drop (suc n * lineBytes) buffer) (n * lineBytes) length-front)
+        ∙ take-at line (drop (suc n * lineBytes) buffer) lineBytes full
 
-  pub placesAt-put : length w ≡ linePlaces → placesAt (putLine buffer n w) n ≡ w
-  unfolding placesAt
-  placesAt-put e = ap places bytesAt-put ∙ places-lineOf w e
+    -- another line stays
+    pub bytesAt-still : (m : ℕ) → m < k → (m ≡ n → ⊥) → bytesAt (putBytes buffer n line) m ≡ bytesAt buffer m
+    bytesAt-still m h d =
+        ext-getD 0 (bytesAt (putBytes buffer n line) m) (bytesAt buffer m) (length-one ∙ sym (length-bytesAt k buffer whole m h)) each
+      where
+        length-one : length (bytesAt (putBytes buffer n line) m) ≡ lineBytes
+        length-one = length-bytesAt k (putBytes buffer n line) length-putBytes m h
 
-  -- another line stays
-  pub bytesAt-other : (m : ℕ) → m < k → (m ≡ n → ⊥) → bytesAt (putLine buffer n w) m ≡ bytesAt buffer m
-  bytesAt-other m h d =
-      ext-getD 0 (bytesAt (putLine buffer n w) m) (bytesAt buffer m) (length-one ∙ sym (length-bytesAt k buffer whole m h)) each
-    where
-      length-one : length (bytesAt (putLine buffer n w) m) ≡ lineBytes
-      length-one = length-bytesAt k (putLine buffer n w) length-putLine m h
+        keeps : (i : ℕ) → i < lineBytes → Dec (n ≤ m)
+            → getD (putBytes buffer n line) (m * lineBytes + i) 0 ≡ getD buffer (m * lineBytes + i) 0
+        keeps i b (yes p) =
+            let later : n < m = omega arith in
+            byte-after (m * lineBytes + i) (omega (arith, lines-le (suc n) m later))
+        keeps i b (no p) =
+            let earlier : m < n = omega arith in
+            byte-before (m * lineBytes + i) (omega (arith, lines-le (suc m) n earlier, suc-mul m lineBytes))
 
-      keeps : (i : ℕ) → i < lineBytes → Dec (n ≤ m)
-          → getD (putLine buffer n w) (m * lineBytes + i) 0 ≡ getD buffer (m * lineBytes + i) 0
-      keeps i b (yes p) =
-          let later : n < m = omega arith in
-          byte-after (m * lineBytes + i) (omega (arith, lines-le (suc n) m later))
-      keeps i b (no p) =
-          let earlier : m < n = omega arith in
-          byte-before (m * lineBytes + i) (omega (arith, lines-le (suc m) n earlier, suc-mul m lineBytes))
+        each : (i : ℕ) → i < length (bytesAt (putBytes buffer n line) m)
+            → getD (bytesAt (putBytes buffer n line) m) i 0 ≡ getD (bytesAt buffer m) i 0
+        each i j =
+            let b : i < lineBytes = omega (arith, length-one) in
+            byte-of (putBytes buffer n line) m i b ∙ keeps i b (decLe n m) ∙ sym (byte-of buffer m i b)
 
-      each : (i : ℕ) → i < length (bytesAt (putLine buffer n w) m)
-          → getD (bytesAt (putLine buffer n w) m) i 0 ≡ getD (bytesAt buffer m) i 0
-      each i j =
-          let b : i < lineBytes = omega (arith, length-one) in
-          byte-of (putLine buffer n w) m i b ∙ keeps i b (decLe n m) ∙ sym (byte-of buffer m i b)
+  -- the bytes of some places
+  module _ (w : Word) where
+    pub length-putLine : length (putLine buffer n w) ≡ k * lineBytes
+    unfolding putLine
+    length-putLine = length-putBytes (lineOf w) (length-lineOf w)
 
-  pub placesAt-other : (m : ℕ) → m < k → (m ≡ n → ⊥) → placesAt (putLine buffer n w) m ≡ placesAt buffer m
-  unfolding placesAt
-  placesAt-other m h d = ap places (bytesAt-other m h d)
+    pub bytesAt-put : bytesAt (putLine buffer n w) n ≡ lineOf w
+    unfolding putLine
+    bytesAt-put = bytesAt-putBytes (lineOf w) (length-lineOf w)
+
+    pub placesAt-put : length w ≡ linePlaces → placesAt (putLine buffer n w) n ≡ w
+    unfolding placesAt
+    placesAt-put e = ap places bytesAt-put ∙ places-lineOf w e
+
+    pub bytesAt-other : (m : ℕ) → m < k → (m ≡ n → ⊥) → bytesAt (putLine buffer n w) m ≡ bytesAt buffer m
+    unfolding putLine
+    bytesAt-other m h d = bytesAt-still (lineOf w) (length-lineOf w) m h d
+
+    pub placesAt-other : (m : ℕ) → m < k → (m ≡ n → ⊥) → placesAt (putLine buffer n w) m ≡ placesAt buffer m
+    unfolding placesAt
+    placesAt-other m h d = ap places (bytesAt-other m h d)

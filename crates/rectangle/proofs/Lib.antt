@@ -15,6 +15,7 @@ pub mod Runs
 pub mod Refused
 pub mod Refusing
 pub mod Summing
+pub mod Pieces
 pub mod SweepingRow
 pub mod Sweeping
 -- The demands: read Kept last.

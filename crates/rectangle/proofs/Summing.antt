@@ -8,9 +8,11 @@ use native.Mathlib.Omega.{arith}
 use lib.ListN.{length, replicate}
 use Rattle.gf2.specs.Word.{Word, _⊕_, zeros}
 use Rattle.gf2.proofs.Xor.{xor-comm, xor-zeros, length-xor-same}
-use Rattle.linecode.specs.Places.{protectedPlaces, hammingPlaces, linePlaces, lineBytes, places, lineOf}
+use Rattle.linecode.specs.Places.{protectedPlaces, hammingPlaces, linePlaces, lineBytes, places, lineOf, xorBytes}
+use Rattle.linecode.proofs.Line.{length-places, lineOf-xor}
 use Rattle.scheme.specs.Visit.{sum}
 use Rattle.rectangle.specs.Store.{aloneAt, stride}
+use Rattle.rectangle.specs.Sweep.{Clean}
 use Rattle.rectangle.proofs.Stride.{sum-snoc}
 use Rattle.rectangle.proofs.Spare.{places-lineOf}
 use Rattle.rectangle.proofs.Alone.{length-alone}
@@ -28,6 +30,10 @@ none-places : places (lineOf []) ≡ zeros linePlaces
 unfolding places lineOf lineBytes protectedPlaces hammingPlaces linePlaces
 none-places = refl
 
+none-zeros : lineOf [] ≡ lineOf (zeros linePlaces)
+unfolding lineOf lineBytes protectedPlaces linePlaces
+none-zeros = refl
+
 -- one line more, in bytes
 one-more : (w v : Word) → Whole w → length v ≡ linePlaces → lineOf (places (lineOf w) ⊕ v) ≡ lineOf (w ⊕ v)
 unfolding Whole
@@ -44,6 +50,21 @@ unfolding Whole
 whole-more w v (inl e) f = inr (ap (λ (x : Word). length (x ⊕ v)) e ∙ f)
 whole-more w v (inr e) f = inr (length-xor-same w v (e ∙ sym f) ∙ e)
 
+-- ---- added byte by byte: to a line whose spare bits are 0
+pub clean-more : (old : List ℕ) (v : Word) → length old ≡ 70 → Clean old → length v ≡ linePlaces
+    → xorBytes old (lineOf v) ≡ lineOf (places old ⊕ v)
+clean-more old v e clean f =
+    ap (λ (l : List ℕ). xorBytes l (lineOf v)) clean ∙ lineOf-xor (places old) v (length-places old e ∙ sym f)
+
+clean-whole : (w : Word) → Whole w → lineOf w ≡ lineOf (places (lineOf w))
+unfolding Whole
+clean-whole w (inl e) =
+    ap lineOf e ∙ none-clean ∙ ap (λ (x : Word). lineOf (places (lineOf x))) (sym e)
+  where
+    none-clean : lineOf [] ≡ lineOf (places (lineOf []))
+    none-clean = none-zeros ∙ ap lineOf (sym none-places)
+clean-whole w (inr e) = ap lineOf (sym (places-lineOf w e))
+
 -- ---- lines at equal steps, as each reads alone
 module _ (buffer : List ℕ) (first step : ℕ) where
   -- the exclusive or of the first k of them
@@ -57,6 +78,12 @@ module _ (buffer : List ℕ) (first step : ℕ) where
       rw (sum-snoc (λ n. aloneAt buffer n .line) first step k)
       (whole-more (summed k) (aloneAt buffer (first + k * step) .line) (whole-summed k (λ j h. inside j (omega arith)))
       (length-alone buffer (first + k * step) (inside k (omega arith))))
+
+  -- their sum has spare bits 0
+  pub clean-summed : (k : ℕ) (l : List ℕ) → ((j : ℕ) → j < k → suc (first + j * step) * 70 ≤ length buffer)
+      → l ≡ lineOf (summed k) → Clean l
+  clean-summed k l inside e =
+      e ∙ clean-whole (summed k) (whole-summed k inside) ∙ ap (λ (m : List ℕ). lineOf (places m)) (sym e)
 
   -- line n is the next of them
   pub sum-turn : (k n : ℕ) (old new : List ℕ) → n ≡ first + k * step

@@ -16,13 +16,13 @@ use Rattle.linecode.specs.Code.{upFrom}
 use Rattle.rectangle.specs.Store.{bytesAt, placesAt, bufferOf, putBytes, putLine, row, column}
 use Rattle.rectangle.specs.Refusals.{acceptedAt}
 use Rattle.rectangle.specs.Tables.{rowParity, columnParity, rowTableOf, columnTableOf}
-use Rattle.rectangle.specs.Sweep.{RowSwept, Unswept, Swept}
+use Rattle.rectangle.specs.Sweep.{RowUnswept, RowSwept, Unswept, Swept}
 use Rattle.rectangle.proofs.Members.{upFrom-bounds}
 use Rattle.rectangle.proofs.Buffer.{byte-of, length-putLine, bytesAt-put, bytesAt-other}
 use Rattle.rectangle.proofs.Area.{column-bytes}
 use Rattle.rectangle.proofs.Alone.{seventy}
 use Rattle.rectangle.proofs.Tests.{some-fails, from-every, every-below, fails-below}
-use Rattle.rectangle.proofs.Summing.{summed, none-summed, sum-turn}
+use Rattle.rectangle.proofs.Summing.{summed, none-summed, clean-summed, sum-turn}
 
 -- ---- the sums as tables
 -- one line more at the end of a table
@@ -122,6 +122,19 @@ module _ (rows columns : ℕ) (lines rowSums columnSums : List ℕ) (first r : �
         let below : suc r ≤ 512 = omega (arith, s .rowsHigh) in
         let all : suc r * 70 ≤ 512 * 70 = mul-le-mul-right 70 below in
         omega (arith, s .rowRoom)
+
+    -- and its columns' sums have spare bits 0
+    pub row-unswept : (piece : List ℕ) → length piece ≡ 32 * 70 → RowUnswept lines first columns piece columnSums
+    row-unswept piece room =
+        record {
+          inside = row-in .1;
+          high = s .columnsHigh;
+          pieceRoom = room;
+          room = s .columnRoom;
+          clean = λ c i.
+              clean-summed lines c columns r (bytesAt columnSums c)
+              (λ j b. column-bytes rows columns (length lines) (s .lineBytes) c i j (omega arith)) (s .columnSum c i);
+        }
 
     module _ (columnSums′ line : List ℕ) (all : Bool) (w : RowSwept lines first columns columnSums columnSums′ line all) where
       -- a faulty line ends the sweep

@@ -2,15 +2,47 @@
 use mathlib.Core.Path.{_≡_}
 use mathlib.Core.Bool.{Bool, true}
 use mathlib.Core.List.{List, []}
-use Prim.Native.Nat.{ℕ, _+_, _*_, _≤_, _<_}
+use Prim.Native.Nat.{ℕ, zero, suc, _+_, _*_, _≤_, _<_}
 use lib.ListN.{length, take}
 use Rattle.gf2.specs.Word.{_⊕_}
-use Rattle.linecode.specs.Places.{lineOf}
+use Rattle.linecode.specs.Places.{places, lineOf, xorBytes}
 use Rattle.linecode.specs.Code.{upFrom}
 use Rattle.scheme.specs.Visit.{sum}
 use Rattle.rectangle.specs.Store.{bytesAt, placesAt, aloneAt, stride}
 use Rattle.rectangle.specs.Refusals.{every, acceptedAt}
 use Rattle.rectangle.specs.Tables.{rowTableOf, columnTableOf}
+
+-- a line whose spare bits are 0
+abbrev pub Clean : List ℕ → Type 0
+Clean line = line ≡ lineOf (places line)
+
+-- so many lines, from line n on, read alone into the first lines of a piece with room for 32: whether all are accepted, and then the
+-- lines
+pub record PieceRead (lines : List ℕ) (n count : ℕ) (piece : List ℕ) (accepted : Bool) : Type 0 where
+  pub room : length piece ≡ 32 * 70
+  pub answer : accepted ≡ every (acceptedAt lines) (upFrom n count)
+  pub read : accepted ≡ true → (i : ℕ) → i < count → bytesAt piece i ≡ lineOf (aloneAt lines (n + i) .line)
+
+-- a line with the first lines of a piece added, byte by byte
+abbrev pub withLines : List ℕ → List ℕ → ℕ → List ℕ
+withLines piece line zero = line
+withLines piece line (suc i) = xorBytes (withLines piece line i) (bytesAt piece i)
+
+-- so many lines of a piece added, byte by byte: all to one sum, and each to its column's, from column c on; other columns stay
+pub record PieceAdded (piece : List ℕ) (count c : ℕ) (old sums line sum : List ℕ) : Type 0 where
+  pub kept : length sums ≡ length old
+  pub row : sum ≡ withLines piece line count
+  pub added : (i : ℕ) → i < count → bytesAt sums (c + i) ≡ xorBytes (bytesAt old (c + i)) (bytesAt piece i)
+  pub before : (k : ℕ) → k < c → bytesAt sums k ≡ bytesAt old k
+  pub after : (k : ℕ) → c + count ≤ k → k < 512 → bytesAt sums k ≡ bytesAt old k
+
+-- what summing a row asks: its lines, room for the sums of 512 columns and for a piece, and that the columns' sums have spare bits 0
+pub record RowUnswept (lines : List ℕ) (first columns : ℕ) (piece sums : List ℕ) : Type 0 where
+  pub inside : (first + columns) * 70 ≤ length lines
+  pub high : columns ≤ 512
+  pub pieceRoom : length piece ≡ 32 * 70
+  pub room : length sums ≡ 512 * 70
+  pub clean : (c : ℕ) → c < columns → Clean (bytesAt sums c)
 
 -- the lines of a row, from the first on: whether all are accepted, and then their exclusive or, and each column's sum with
 -- its line added

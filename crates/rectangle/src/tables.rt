@@ -1,51 +1,95 @@
 // Making both parity tables from lines, each used as it reads alone. Document 01, "The rectangle".
-use crate::lines::ColumnIndex;
 use crate::lines::RowIndex;
-use crate::lines::add_to_column;
-use crate::lines::alone_by;
+use crate::lines::add_line;
+use crate::lines::line_at;
 use crate::lines::put_row_parity;
+use crate::lines::read_into;
 use crate::sizes;
 use linecode::place;
 ghost use mathlib.Core.Path.{_≡_};
 ghost use Prim.Native.Nat.{_+_, _*_, _≤_};
 ghost use lib.ListN.{length, take};
-ghost use Rattle.register.specs.Slices.{sliceTable};
-ghost use Rattle.rectangle.specs.Sweep.{RowSwept, Unswept, Swept};
+ghost use Rattle.sweep.specs.Table.{lineTable};
+ghost use Rattle.rectangle.specs.Sweep.{PieceRead, PieceAdded, RowUnswept, RowSwept, Unswept, Swept};
 ghost use Rattle.rectangle.specs.Tables.{TablesMade, makeTables};
 
-// The exclusive or of a row's lines, and whether all of them are accepted; where one is faulty, of the lines before it.
+// The exclusive or of a row's lines, and whether all of them are accepted; where one is faulty, of the pieces before it, for no use.
 struct RowSum {
     line: [u8; 70],
     accepted: bool,
 }
 
-// Each line of a row read alone, once, and added to the row's sum and to its column's. A faulty line ends it.
+// Lines read alone from line n on, each once, into the first lines of a piece: whether all are accepted. A faulty line ends it.
+fn read_piece(table: &[u64; 4096], lines: &[u8], n: usize, count: usize, piece: &mut [u8]) -> bool
+    requires { ⌜ (now table ≡ lineTable) × ((n + count) * 70 ≤ length (now lines)) × (count ≤ 32) × (length (now piece) ≡ 32 * 70) ⌝ }
+    ensures { λ r. ⌜ PieceRead (now (lines .entry)) n count (now (piece .exit)) r ⌝ }
+{
+    let mut i = 0;
+    while i < count {
+        let mark = read_into(table, lines, n + i, piece, i);
+        if mark == 4 {
+            return false;
+        }
+        i += 1;
+    }
+    true
+}
+
+// Each line of a piece added to the row's sum, which is returned, and to its column's, from column c on. Lines read alone have spare
+// bits 0, and so have these sums, so that whole bytes are added.
+fn add_piece(
+    piece: &[u8],
+    count: usize,
+    c: usize,
+    sum: [u8; 70],
+    column_sums: &mut [u8],
+) -> [u8; 70]
+    requires { ⌜ (count ≤ 32) × (length (now piece) ≡ 32 * 70) × (c + count ≤ 512) × (length (now «column_sums») ≡ 512 * 70) ⌝ }
+    ensures { λ r. ⌜ PieceAdded (now (piece .entry)) count c (now («column_sums» .entry)) (now («column_sums» .exit)) sum r ⌝ }
+{
+    let mut total = sum;
+    let mut i = 0;
+    while i < count {
+        let line = line_at(piece, i);
+        let next = place::xor_bytes(total, line);
+        total = next;
+        add_line(column_sums, c + i, line);
+        i += 1;
+    }
+    total
+}
+
+// Each line of a row read alone, once, and added to the row's sum and to its column's. A faulty line ends it. It goes by pieces of at most
+// 32 lines, all read and then all added: a line added right after its last bytes were stored would make the processor wait for them.
 fn sum_row(
-    slices: &[u32; 4096],
+    table: &[u64; 4096],
     lines: &[u8],
     first: usize,
     columns: usize,
+    piece: &mut [u8],
     column_sums: &mut [u8],
 ) -> RowSum
-    requires { ⌜ (now slices ≡ sliceTable) × ((first + columns) * 70 ≤ length (now lines)) × (columns ≤ 512) × (length (now «column_sums») ≡ 512 * 70) ⌝ }
+    requires table { ⌜ now table ≡ lineTable ⌝ }
+    requires unswept { ⌜ RowUnswept (now lines) first columns (now piece) (now «column_sums») ⌝ }
     ensures { λ r. ⌜ RowSwept (now (lines .entry)) first columns (now («column_sums» .entry)) (now («column_sums» .exit))
         (r .line) (r .accepted) ⌝ }
 {
     let mut sum = [0u8; 70];
     let mut c = 0;
     while c < columns {
-        let read = alone_by(slices, lines, first + c);
-        if read.mark == 4 {
+        let mut count = columns - c;
+        if 32 < count {
+            count = 32;
+        }
+        if !read_piece(table, lines, first + c, count, piece) {
             return RowSum {
                 line: sum,
                 accepted: false,
             };
         }
-        let line = read.line;
-        let next = place::xor_lines(sum, line);
+        let next = add_piece(piece, count, c, sum, column_sums);
         sum = next;
-        add_to_column(column_sums, ColumnIndex(c), line);
-        c += 1;
+        c += count;
     }
     RowSum {
         line: sum,
@@ -56,21 +100,23 @@ fn sum_row(
 // Rows and columns summed in one sweep over the lines, in the order in which they lie: whether every line is accepted. A faulty
 // line ends it.
 fn sweep(
-    slices: &[u32; 4096],
+    table: &[u64; 4096],
     rows: usize,
     columns: usize,
     lines: &[u8],
     row_sums: &mut [u8],
     column_sums: &mut [u8],
 ) -> bool
-    requires table { ⌜ now slices ≡ sliceTable ⌝ }
+    requires table { ⌜ now table ≡ lineTable ⌝ }
     requires unswept { ⌜ Unswept rows columns (now lines) (now «row_sums») (now «column_sums») ⌝ }
     ensures { λ r. ⌜ Swept rows columns (now (lines .entry)) (now («row_sums» .exit)) (now («column_sums» .exit)) r ⌝ }
 {
+    // Room for 32 lines, zeroed once and not for each row, since a row may have two lines only.
+    let mut piece = [0u8; 2240];
     let mut first = 0;
     let mut r = 0;
     while r < rows {
-        let row = sum_row(slices, lines, first, columns, column_sums);
+        let row = sum_row(table, lines, first, columns, &mut piece, column_sums);
         if !row.accepted {
             return false;
         }
@@ -119,9 +165,9 @@ pub fn make_tables(
     // Refusal 10 writes nothing and is known after the last line only, so the sums are made apart: 512 lines of 70 bytes each.
     let mut row_sums = [0u8; 35840];
     let mut column_sums = [0u8; 35840];
-    let slices = register::slices::slices();
+    let table = sweep::table::lent();
     if !sweep(
-        &slices,
+        &table,
         rows,
         columns,
         lines,

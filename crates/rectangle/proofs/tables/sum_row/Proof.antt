@@ -1,78 +1,110 @@
--- `rectangle::tables::sum_row` meets its contract: after c turns the first c lines of the row are summed.
-use Prim.Native.Nat.{suc, _+_, _-_, _*_, _≤_}
+-- `rectangle::tables::sum_row` meets its contract: after each turn the first c lines of the row are summed.
+use mathlib.Core.Path.{sym, _∙_}
+use mathlib.Core.Logic.{⊎-elim}
+use Prim.Native.Nat.{_+_, _-_, _*_, _≤_, _<_}
 use native.Mathlib.Omega.{arith}
-use borrow.Author.Needs.{needs}
 use lib.ListN.{length}
-use Rattle.rectangle.proofs.SweepingRow.{RowTurn, row-starts, line-in, sum-in, row-faulty, row-more, row-ends}
+use borrow.Author.Tests.{not-true, not-false}
+use Rattle.rectangle.proofs.SweepingRow.{RowTurn, row-starts, piece-in, row-faulty, row-more, row-ends}
 use Rattle.rectangle.proofs.tables.sum_row.Statement.{statement}
 use Rattle.rectangle.proofs.tables.sum_row.Tie as tie
 
 abbrev Inv-loop : tie.InvT-loop
-Inv-loop slices lines first columns column-sums₀ sum₀ c₀ column-sums sum c = RowTurn lines first columns column-sums₀ column-sums sum c
+Inv-loop table lines first columns piece₀ column-sums₀ sum₀ c₀ piece column-sums sum c =
+    RowTurn lines first columns column-sums₀ piece column-sums sum c
 
 abbrev μ-loop : tie.MeasureT-loop
-μ-loop slices lines first columns column-sums₀ sum₀ c₀ column-sums sum c = columns - c
+μ-loop table lines first columns piece₀ column-sums₀ sum₀ c₀ piece column-sums sum c = columns - c
 
 loop-holds : tie.Need-loop-holds Inv-loop μ-loop
-loop-holds c = let start = c .before .before in row-starts _ _ _ _ (start .pre .1) (start .pre .2) (start .pre .3)
+loop-holds c = row-starts _ _ _ _ _ (c .before .before .before .pre .1)
 
--- the line of this turn lies inside the buffer
-inside : (c : tie.In-loop Inv-loop μ-loop)
-    → let a = c .before .before .before .before .args in
-    suc (a .first + c .before .loop .c) * 70 ≤ length (a .lines .now)
+sub-count : tie.Need-sub-count Inv-loop μ-loop
+sub-count c = omega arith
+
+-- how many lines the piece of this turn has
+counted : (c : tie.Joined1 Inv-loop μ-loop)
+    → (0 < c .if1 .count) × (c .if1 .count ≤ 32) × (c .before .before .loop .c + c .if1 .count ≤ c .before .before .before .before .before .before .args .columns)
+counted c = ⊎-elim (λ w. (omega arith, omega arith, omega arith)) (λ w. (omega arith, omega arith, omega arith)) (c .if1 .came)
+
+-- its lines lie inside the lines
+inside : (c : tie.Joined1 Inv-loop μ-loop)
+    → let a = c .before .before .before .before .before .before .args in
+    (a .first + c .before .before .loop .c + c .if1 .count) * 70 ≤ length (a .lines .now)
 inside c =
-    let here = c .before .loop in
-    line-in _ _ _ (c .before .before .before .before .args .column-sums .now) (here .column-sums) (here .sum) (here .c) (here .inv) (here .c) (c .loop-test .taken)
+    let here = c .before .before .loop in
+    piece-in _ _ _ _ _ (c .before .before .before .before .before .before .pre .1) (here .piece) (here .column-sums) (here .sum) (here .c)
+    (here .inv) (c .if1 .count) (counted c .2)
 
-add-alone-by : tie.Need-add-alone-by Inv-loop μ-loop
-add-alone-by c = omega (arith, inside c)
+add-read-piece : tie.Need-add-read-piece Inv-loop μ-loop
+add-read-piece c = omega (arith, inside c)
 
-alone-by-requires : tie.Need-alone-by-requires Inv-loop μ-loop
-alone-by-requires c κs = (c .before .before .before .before .pre .0, inside c)
+read-piece-requires : tie.Need-read-piece-requires Inv-loop μ-loop
+read-piece-requires c κs =
+    let piece = c .before in
+    let at = piece .before .before in
+    (at .before .before .before .before .pre .0, inside piece, counted piece .1, at .loop .inv .pieceRoom)
 
 same-length : tie.Need-same-length Inv-loop μ-loop
-same-length c = c .before .before .before .before .loop .inv .kept
+same-length c =
+    let read = c .before .before .before in
+    read .read-piece .ensures .room ∙ sym (read .before .before .before .before .before .before .before .before .pre .1 .pieceRoom)
+
+same-length-2 : tie.Need-same-length-2 Inv-loop μ-loop
+same-length-2 c = c .before .before .before .before .before .before .before .loop .inv .kept
 
 returns : tie.Need-returns Inv-loop μ-loop
 returns c =
-    let turn = c .before .before .before in
-    let here = turn .before .loop in
-    row-faulty _ _ _ _ (here .column-sums) (here .sum) (here .c) (here .inv) (turn .loop-test .taken)
-    (c .before .before .alone-by .result) (c .before .before .alone-by .ensures) (c .if1 .taken)
+    let read = c .before .before .before in
+    let piece = read .before .before in
+    let at = piece .before .before in
+    let here = at .loop in
+    row-faulty _ _ _ _ _ (at .before .before .before .before .pre .1) (here .piece) (here .column-sums) (here .sum) (here .c) (here .inv)
+    (piece .if1 .count) (counted piece .2) _ (read .read-piece .result) (read .read-piece .ensures) (not-true _ (c .if2 .taken))
 
-xor-lines-requires : tie.Need-xor-lines-requires Inv-loop μ-loop
-xor-lines-requires c κs = search needs
-
-add-to-column-requires : tie.Need-add-to-column-requires Inv-loop μ-loop
-add-to-column-requires c κs =
-    let here = c .before .before .before .before .before .before .before .loop in
-    let start = c .before .before .before .before .before .before .before .before .before .before in
-    sum-in (start .args .lines .now) _ _ (start .args .column-sums .now) (here .column-sums) (here .sum) (here .c) (here .inv) (search needs)
+add-piece-requires : tie.Need-add-piece-requires Inv-loop μ-loop
+add-piece-requires c κs =
+    let read = c .before .before .before .before .before in
+    let piece = read .before .before in
+    let at = piece .before .before in
+    let u = at .before .before .before .before .pre .1 in (
+      counted piece .1,
+      read .read-piece .ensures .room,
+      omega (arith, counted piece .2, u .high),
+      at .loop .inv .kept ∙ u .room,
+    )
 
 add-c : tie.Need-add-c Inv-loop μ-loop
-add-c c = omega arith
+add-c c = omega (arith, counted (c .before .before .before .before .before .before .before .before .before .before .before) .2)
 
 loop-less : tie.Need-loop-less Inv-loop μ-loop
-loop-less c = omega arith
+loop-less c =
+    let few = counted (c .before .before .before .before .before .before .before .before .before .before .before) in
+    omega (arith, few .0, few .2)
 
 loop-again : tie.Need-loop-again Inv-loop μ-loop
 loop-again c =
-    let added = c .before .before in
-    let summed = added .before .before in
-    let if1 = summed .before .before in
-    let turn = if1 .before .before .before in
-    let here = turn .before .loop in
-    row-more _ _ _ _ (here .column-sums) (here .sum) (here .c) (here .inv) (turn .loop-test .taken)
-    (if1 .before .before .alone-by .result) (if1 .before .before .alone-by .ensures) _ _ (summed .xor-lines .ensures) (added .add-to-column .ensures)
-    (if1 .if1 .left)
+    let added = c .before .before .before in
+    let accepted = added .before .before .before in
+    let read = accepted .before .before .before in
+    let piece = read .before .before in
+    let at = piece .before .before in
+    let here = at .loop in
+    row-more _ _ _ _ _ (at .before .before .before .before .pre .1) (here .piece) (here .column-sums) (here .sum) (here .c) (here .inv)
+    (piece .if1 .count) (counted piece .2) _ (read .read-piece .result) (read .read-piece .ensures) (not-false _ (accepted .if2 .left)) _ _
+    (added .add-piece .ensures)
 
-same-length-2 : tie.Need-same-length-2 Inv-loop μ-loop
-same-length-2 c = c .before .loop .inv .kept
+same-length-3 : tie.Need-same-length-3 Inv-loop μ-loop
+same-length-3 c = c .before .loop .inv .pieceRoom ∙ sym (c .before .before .before .before .before .pre .1 .pieceRoom)
+
+same-length-4 : tie.Need-same-length-4 Inv-loop μ-loop
+same-length-4 c = c .before .loop .inv .kept
 
 returns-2 : tie.Need-returns-2 Inv-loop μ-loop
 returns-2 c =
     let here = c .before .loop in
-    row-ends _ _ _ _ (here .column-sums) (here .sum) (here .c) (here .inv) (c .loop-test .left)
+    row-ends _ _ _ _ _ (c .before .before .before .before .before .pre .1) (here .piece) (here .column-sums) (here .sum) (here .c) (here .inv)
+    (c .loop-test .left)
 
 pub sum-row-spec : {M : Type 1} → statement M
 sum-row-spec =
@@ -81,14 +113,16 @@ sum-row-spec =
     Inv-loop
     μ-loop
     loop-holds
-    add-alone-by
-    alone-by-requires
+    sub-count
+    add-read-piece
+    read-piece-requires
     same-length
+    same-length-2
     returns
-    xor-lines-requires
-    add-to-column-requires
+    add-piece-requires
     add-c
     loop-less
     loop-again
-    same-length-2
+    same-length-3
+    same-length-4
     returns-2)

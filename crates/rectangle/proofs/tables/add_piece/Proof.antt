@@ -1,0 +1,96 @@
+-- `rectangle::tables::add_piece` meets its contract: after i turns the first i lines are added.
+use mathlib.Core.Path.{_≡_, ap, _∙_}
+use mathlib.Core.List.{List}
+use Prim.Native.Nat.{ℕ, suc, _+_, _-_, _*_, _≤_}
+use native.Mathlib.Omega.{arith}
+use borrow.Author.Needs.{needs}
+use lib.ListN.{length}
+use Rattle.linecode.specs.Places.{xorBytes}
+use Rattle.rectangle.specs.Store.{bytesAt, putBytes}
+use Rattle.rectangle.specs.Sweep.{PieceAdded}
+use Rattle.rectangle.proofs.Pieces.{line-within, adding-starts, sum-within, adding-more}
+use Rattle.rectangle.proofs.tables.add_piece.Statement.{statement}
+use Rattle.rectangle.proofs.tables.add_piece.Tie as tie
+
+abbrev Inv-loop : tie.InvT-loop
+Inv-loop piece count c column-sums₀ total₀ i₀ column-sums total i =
+    (i ≤ count) × PieceAdded piece i c column-sums₀ column-sums total₀ total
+
+abbrev μ-loop : tie.MeasureT-loop
+μ-loop piece count c column-sums₀ total₀ i₀ column-sums total i = count - i
+
+loop-holds : tie.Need-loop-holds Inv-loop μ-loop
+loop-holds c = (omega arith, adding-starts _ _ _ _)
+
+-- the line of this turn lies inside the piece
+held : (c : tie.In-loop Inv-loop μ-loop) → suc (c .before .loop .i) * 70 ≤ length (c .before .before .before .before .args .piece .now)
+held c =
+    let start = c .before .before .before .before in
+    line-within _ 32 _ (omega (arith, start .pre .0)) (omega (arith, start .pre .1))
+
+line-at-requires : tie.Need-line-at-requires Inv-loop μ-loop
+line-at-requires c κs = held c
+
+xor-bytes-requires : tie.Need-xor-bytes-requires Inv-loop μ-loop
+xor-bytes-requires c κs = search needs
+
+add-add-line : tie.Need-add-add-line Inv-loop μ-loop
+add-add-line c = omega arith
+
+add-line-requires : tie.Need-add-line-requires Inv-loop μ-loop
+add-line-requires c κs =
+    let turn = c .before .before .before in
+    let here = turn .before .loop in
+    let start = turn .before .before .before .before in
+    sum-within (start .args .piece .now) (here .i) (start .args .c) (start .args .column-sums .now) (here .column-sums) (start .args .sum)
+    (here .total) (here .inv .1) (held turn) (start .pre .3) (omega (arith, start .pre .2))
+
+add-i : tie.Need-add-i Inv-loop μ-loop
+add-i c = omega arith
+
+loop-less : tie.Need-loop-less Inv-loop μ-loop
+loop-less c = omega arith
+
+loop-again : tie.Need-loop-again Inv-loop μ-loop
+loop-again c =
+    let added = c .before .before in
+    let summed = added .before .before in
+    let read = summed .before in
+    let turn = read .before in
+    let here = turn .before .loop in
+    let start = turn .before .before .before .before in
+    let at = start .args .c + here .i in (
+      omega arith,
+      adding-more _ _ _ _ (here .column-sums) (start .args .sum) (here .total) (here .inv .1) (held turn) (start .pre .3)
+          (omega (arith, start .pre .2)) _ _
+          (added .add-line .ensures
+          ∙ ap (λ (l : List ℕ). putBytes (here .column-sums) at (xorBytes (bytesAt (here .column-sums) at) l)) (read .line-at .ensures))
+          (summed .xor-bytes .ensures ∙ ap (xorBytes (here .total)) (read .line-at .ensures)),
+    )
+
+same-length : tie.Need-same-length Inv-loop μ-loop
+same-length c = c .before .loop .inv .1 .kept
+
+returns : tie.Need-returns Inv-loop μ-loop
+returns c =
+    let here = c .before .loop in
+    let start = c .before .before .before .before in
+    let e : here .i ≡ start .args .count = omega arith in
+    rw e at (here .inv .1)
+
+pub add-piece-spec : {M : Type 1} → statement M
+add-piece-spec =
+    tie.close
+    (tie.spec
+    Inv-loop
+    μ-loop
+    loop-holds
+    line-at-requires
+    xor-bytes-requires
+    add-add-line
+    add-line-requires
+    add-i
+    loop-less
+    loop-again
+    same-length
+    returns)
