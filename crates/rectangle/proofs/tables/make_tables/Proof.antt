@@ -30,8 +30,8 @@ fit c =
     sizes-passed (a .rows) (a .columns) (a .lines .now) (a .row-table .now) (a .column-table .now) _
     (c .before .refusal .ensures) (c .if1 .left)
 
-table-requires : tie.Need-table-requires
-table-requires c κs = search needs
+lent-requires : tie.Need-lent-requires
+lent-requires c κs = search needs
 
 slice-aggregate-sweep : tie.Need-slice-aggregate-sweep
 slice-aggregate-sweep c = search needs
@@ -45,7 +45,7 @@ sweep-requires c κs =
     let a = sized .before .before .before .before .before .args in
     let p = fit sized in
     let s = sides _ _ (p .sides) in (
-      c .before .before .before .table .ensures,
+      c .before .before .before .lent .ensures,
       unswept (a .rows) (a .columns) (a .lines .now) 35840 refl (s .rowsHigh) (s .columnsHigh) (omega (arith, p .lineBytes)),
     )
 
@@ -105,7 +105,7 @@ make-tables-spec =
     (tie.spec
     refusal-requires
     returns
-    table-requires
+    lent-requires
     slice-aggregate-sweep
     slice-aggregate-sweep-2
     sweep-requires
