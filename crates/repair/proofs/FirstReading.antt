@@ -22,7 +22,8 @@ use Rattle.rectangle.proofs.Kept.{kept}
 use Rattle.rectangle.proofs.Buffer.{length-bufferOf}
 use Rattle.rectangle.proofs.Loops.{put-next, reading-wide}
 use Rattle.rectangle.proofs.Members.{length-upFrom}
-use Rattle.repair.specs.Lent.{Holding, Begun, readFirst}
+use Rattle.mending.specs.Lent.{Holding}
+use Rattle.repair.specs.Lent.{Begun, readFirst}
 
 pub length-readFirst : (found : List ℕ) (n : ℕ) → length (readFirst found n) ≡ n
 unfolding readFirst

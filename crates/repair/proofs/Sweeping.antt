@@ -25,11 +25,12 @@ use Rattle.rectangle.proofs.Buffer.{length-placesAt}
 use Rattle.rectangle.proofs.Groups.{row-number, column-number, line-inside}
 use Rattle.rectangle.proofs.Spare.{places-lineOf}
 use Rattle.rectangle.proofs.Stride.{in-stride}
-use Rattle.repair.specs.Lent.{Room, Beside, Begun, ReadUpTo, Tracked, Carried, readFirst, membersOf, groupOf, added}
-use Rattle.repair.proofs.Numbers.{row-of, column-of, members-rising, homes, members-few}
-use Rattle.repair.proofs.Mending.{one-if, beside-elsewhere, beside-here}
-use Rattle.repair.proofs.Added.{added-length, added-same, added-other, put-same, put-other}
-use Rattle.repair.proofs.Trying.{read-long}
+use Rattle.mending.specs.Lent.{Room, Beside, Tracked, Carried, membersOf, groupOf, added}
+use Rattle.repair.specs.Lent.{Begun, ReadUpTo, readFirst}
+use Rattle.mending.proofs.Numbers.{row-of, column-of, members-rising, homes, members-few}
+use Rattle.mending.proofs.Mending.{one-if, beside-elsewhere, beside-here}
+use Rattle.mending.proofs.Added.{added-length, added-same, added-other, put-same, put-other}
+use Rattle.mending.proofs.Trying.{read-long}
 use Rattle.repair.proofs.FirstReading.{length-readFirst, one-more, all-read, alone-is, begun-start, begun-next, begun-end}
 
 -- ---- numbers of faulty lines are small

@@ -1,9 +1,7 @@
 // Repair of a rectangle: document 01's steps on lent buffers. Document 01, "Repair".
-mod group;
 mod parity;
 mod passes;
 mod reading;
-mod visit;
 
 ghost use mathlib.Core.Path.{_≡_};
 ghost use Prim.Native.Nat.{ℕ, _+_, _*_, _≤_};
@@ -13,7 +11,9 @@ ghost use Rattle.scheme.specs.Visit.{State};
 ghost use Rattle.scheme.specs.Repair.{answer};
 ghost use Rattle.rectangle.specs.Refusals.{repairRefusal};
 ghost use Rattle.rectangle.specs.Repair.{StoreRepaired, repairStore};
-ghost use Rattle.repair.specs.Lent.{Tracked, allGroups};
+ghost use Rattle.mending.specs.Lent.{Tracked};
+ghost use Rattle.repair.specs.Lent.{allGroups};
+use mending::group;
 use rectangle::sizes;
 
 // What repair answers, and its passes.

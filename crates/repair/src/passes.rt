@@ -5,9 +5,10 @@ ghost use Rattle.register.specs.Slices.{sliceTable};
 ghost use Rattle.scheme.specs.Layer.{readLine};
 ghost use Rattle.scheme.specs.Repair.{pass};
 ghost use Rattle.rectangle.specs.Store.{lineLayer};
-ghost use Rattle.repair.specs.Lent.{Ready, Makes, allGroups, RanPasses};
-use crate::group;
-use crate::visit;
+ghost use Rattle.mending.specs.Lent.{Ready, Makes};
+ghost use Rattle.repair.specs.Lent.{allGroups, RanPasses};
+use mending::group;
+use mending::visit;
 
 // All groups are visited; one without a faulty line costs a look at its count.
 pub fn visit_all(

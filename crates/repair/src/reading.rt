@@ -9,10 +9,11 @@ ghost use Rattle.register.specs.Slices.{sliceTable};
 ghost use Rattle.scheme.specs.Layer.{readLine};
 ghost use Rattle.scheme.specs.Repair.{readAll};
 ghost use Rattle.rectangle.specs.Store.{lineLayer, linesIn};
-ghost use Rattle.repair.specs.Lent.{Room, ReadUpTo, ReadsOn, Tracked, Carried};
-use crate::group;
+ghost use Rattle.mending.specs.Lent.{Room, Tracked, Carried};
+ghost use Rattle.repair.specs.Lent.{ReadUpTo, ReadsOn};
 use linecode::alone;
 use linecode::place;
+use mending::group;
 use rectangle::lines;
 
 // Each line of row r is read alone into the line buffer, its mark into the mark buffer, and added to its row's and its column's difference.

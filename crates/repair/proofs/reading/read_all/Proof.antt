@@ -3,7 +3,7 @@ use native.Mathlib.Omega.{arith}
 use mathlib.Core.Path.{sym, _∙_}
 use Prim.Native.Nat.{_-_}
 use native.Mathlib.Nat.{mul-le-mul-right}
-use Rattle.repair.proofs.Trying.{same-room}
+use Rattle.mending.proofs.Trying.{same-room}
 use Rattle.repair.proofs.Sweeping.{Swept, swept-start, swept-next, swept-end}
 use Rattle.repair.proofs.reading.read_all.Statement.{statement}
 use Rattle.repair.proofs.reading.read_all.Tie as tie
