@@ -6,18 +6,18 @@ use Prim.Native.Nat.{ℕ, zero, suc, _+_, _*_, _/_, _%_, _^_, _≤_, _<_}
 use native.Mathlib.Nat.{suc-inj, not-suc-le-zero, le-of-suc-le-suc, lt-of-lt-of-le, zero-add, suc-add}
 use native.Mathlib.Numerals.{add-one}
 use native.Mathlib.Omega.{arith}
-use lib.Bits.{bitXor}
+use lib.Bits.{bitXor, xor-zero-l, xor-zero-r, xor-block}
 use lib.Dec.{eqb}
 use lib.ListN.{length, take, drop, getD, set, length-take, length-drop, take-append-drop, drop-of-length-le, List·getD-append}
 use lib.Seq.{take-all, take-nil, getD-append-add}
 use lib.Pow.{pow-mono}
 use Rattle.gf2.specs.Word.{Word, _⊻_, _⊕_, zeros, flip, digits, number}
 use Rattle.gf2.specs.Check.{bit}
-use Rattle.gf2.proofs.Xor.{xor-append, xor-zeros}
+use Rattle.gf2.proofs.Xor.{xor-append, xor-zeros, take-xor, drop-xor}
 use Rattle.gf2.proofs.Digits.{number-small, number-lt, digits-number, digits-zero, digits-xor, getD-digits}
 use Rattle.gf2.proofs.Weight.{flip-append, flip-append-add}
 pub use Rattle.register.proofs.Bytes.{Bytes, array-length, array-bytes, byte-at, array-byte}
-use Rattle.linecode.specs.Places.{bitsOf, bytesOf}
+use Rattle.linecode.specs.Places.{bitsOf, bytesOf, xorBytes}
 
 pub bytes-take : (n : ℕ) (l : List ℕ) → Bytes l → Bytes (take n l)
 bytes-take zero l p = tt
@@ -92,11 +92,6 @@ getD-bitsOf (b ∷ l) (suc q) k h j =
     ∙ getD-bitsOf l q k (le-of-suc-le-suc h) j
 
 -- ---- exclusive or of bytes
-abbrev pub xorBytes : List ℕ → List ℕ → List ℕ
-xorBytes [] y = []
-xorBytes (a ∷ x) [] = []
-xorBytes (a ∷ x) (b ∷ y) = bitXor a b ∷ xorBytes x y
-
 pub bitsOf-xor : (x y : List ℕ) → length x ≡ length y → bitsOf (xorBytes x y) ≡ bitsOf x ⊕ bitsOf y
 bitsOf-xor [] [] e = refl
 bitsOf-xor [] (b ∷ y) e = let z : ⊥ = omega arith in absurd z
@@ -104,6 +99,42 @@ bitsOf-xor (a ∷ x) [] e = let z : ⊥ = omega arith in absurd z
 bitsOf-xor (a ∷ x) (b ∷ y) e =
     ap₂ _++_ (digits-xor 8 a b) (bitsOf-xor x y (suc-inj e))
     ∙ sym (xor-append (digits 8 a) (digits 8 b) (bitsOf x) (bitsOf y) refl)
+
+-- the number of an exclusive or, of words of any lengths
+number-xor : (x y : Word) → bitXor (number x) (number y) ≡ number (x ⊕ y)
+number-xor [] y = xor-zero-l (number y)
+number-xor (a ∷ x) [] = xor-zero-r (number (a ∷ x))
+number-xor (a ∷ x) (b ∷ y) =
+    ap₂ bitXor (low a x) (low b y)
+    ∙ xor-block 1 (number x) (number y) (one a) (one b) (one-lt a) (one-lt b)
+    ∙ ap (λ (n : ℕ). n * 2 + bitXor (one a) (one b)) (number-xor x y)
+    ∙ ap (λ (n : ℕ). number (x ⊕ y) * 2 + n) (both a b)
+    ∙ sym (low (a ⊻ b) (x ⊕ y))
+  where
+    one : Bool → ℕ
+    one false = 0
+    one true = 1
+
+    one-lt : (a : Bool) → one a < 2
+    one-lt false = omega arith
+    one-lt true = omega arith
+
+    low : (a : Bool) (x : Word) → number (a ∷ x) ≡ number x * 2 + one a
+    low false x = omega arith
+    low true x = omega arith
+
+    both : (a b : Bool) → bitXor (one a) (one b) ≡ one (a ⊻ b)
+    both false false = refl
+    both false true = refl
+    both true false = refl
+    both true true = refl
+
+pub xorBytes-bytesOf : (n : ℕ) (x y : Word) → xorBytes (bytesOf n x) (bytesOf n y) ≡ bytesOf n (x ⊕ y)
+xorBytes-bytesOf zero x y = refl
+xorBytes-bytesOf (suc n) x y =
+    ap₂ (λ (a : ℕ) (l : List ℕ). a ∷ l)
+    (number-xor (take 8 x) (take 8 y) ∙ ap number (sym (take-xor 8 x y)))
+    (xorBytes-bytesOf n (drop 8 x) (drop 8 y) ∙ ap (bytesOf n) (sym (drop-xor 8 x y)))
 
 -- the exclusive or of the first i bytes, and the rest of the first list: what a loop has made after i turns
 abbrev pub xorFirst : ℕ → List ℕ → List ℕ → List ℕ

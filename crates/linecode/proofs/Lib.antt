@@ -1,9 +1,9 @@
 -- Laws of one line of 70 bytes.
 pub mod Bytes
 pub mod Line
+pub mod Positions
 pub mod Stores
 pub mod Loading
-pub mod Positions
 pub mod Linear
 pub mod WordBytes
 pub mod WordSums

@@ -2,7 +2,7 @@
 use mathlib.Core.Path.{_≡_, refl, sym, ap, ap₂, _∙_, subst}
 use mathlib.Core.Bool.{Bool, true, false}
 use mathlib.Core.List.{List, [], _∷_, _++_, append-nil, append-assoc}
-use Prim.Native.Nat.{ℕ, zero, suc, _+_, _-_, _*_, _/_, _%_, _^_, _≤_, _<_}
+use Prim.Native.Nat.{ℕ, zero, suc, _+_, _-_, _*_, _/_, _%_, _^_, _≤_, _<_, min}
 use native.Mathlib.Nat.{mod-eq-of-lt}
 use native.Mathlib.Omega.{arith}
 use lib.Bits.{bitXor}
@@ -13,9 +13,9 @@ use Rattle.gf2.specs.Check.{bit}
 use Rattle.gf2.proofs.Xor.{xor-append, take-xor, drop-xor}
 use Rattle.gf2.proofs.Digits.{length-digits, number-digits, number-small, digits-number, digits-add, number-lt}
 use Rattle.gf2.proofs.Weight.{take-flip, drop-flip, drop-flip-add, flip-append, flip-append-add, flip-past, length-flip}
-use Rattle.linecode.specs.Places.{dataPlaces, protectedPlaces, hammingPlaces, linePlaces, lineBytes, bitsOf, bytesOf, places, lineOf}
+use Rattle.linecode.specs.Places.{dataPlaces, protectedPlaces, hammingPlaces, linePlaces, lineBytes, bitsOf, bytesOf, places, lineOf, xorBytes}
 use Rattle.linecode.specs.Code.{protected, dataOf, storedCrc, storedHamming}
-use Rattle.linecode.proofs.Bytes.{Bytes, bytes-take, byte-at, length-bitsOf, bitsOf-append, take-bitsOf, bytesOf-append, bitsOf-bytesOf, bytes-bytesOf, length-bytesOf, xorBytes, bitsOf-xor, length-xorBytes, flip-bitsOf, getD-bitsOf}
+use Rattle.linecode.proofs.Bytes.{Bytes, bytes-take, byte-at, length-bitsOf, bitsOf-append, take-bitsOf, bytesOf-append, bitsOf-bytesOf, bytes-bytesOf, length-bytesOf, bitsOf-xor, xorBytes-bytesOf, length-xorBytes, flip-bitsOf, getD-bitsOf}
 
 -- ---- the named numbers
 pub protected-is : protectedPlaces ≡ 543
@@ -237,6 +237,17 @@ places-xor a b e f =
   where
     front : (l : List ℕ) → length l ≡ 70 → length (take protectedPlaces (bitsOf l)) ≡ protectedPlaces
     front l e = length-take-le protectedPlaces (bitsOf l) (omega (arith, protected-is, length-bitsOf l))
+
+-- of lines with spare bits 0, whose exclusive or then has them 0 too
+pub lineOf-xor : (w v : Word) → length w ≡ length v → xorBytes (lineOf w) (lineOf v) ≡ lineOf (w ⊕ v)
+unfolding lineOf
+lineOf-xor w v e =
+    xorBytes-bytesOf lineBytes (take protectedPlaces w ++ (false ∷ drop protectedPlaces w))
+    (take protectedPlaces v ++ (false ∷ drop protectedPlaces v))
+    ∙ ap (bytesOf lineBytes)
+    (xor-append (take protectedPlaces w) (take protectedPlaces v) (false ∷ drop protectedPlaces w) (false ∷ drop protectedPlaces v)
+    (length-take protectedPlaces w ∙ ap (min protectedPlaces) e ∙ sym (length-take protectedPlaces v))
+    ∙ ap₂ (λ (x y : Word). x ++ (false ∷ y)) (sym (take-xor protectedPlaces w v)) (sym (drop-xor protectedPlaces w v)))
 
 -- ---- a place turned over
 module _ (l : List ℕ) (whole : length l ≡ 70) where

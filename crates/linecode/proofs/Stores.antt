@@ -8,13 +8,14 @@ use native.Mathlib.Omega.{arith}
 use lib.ListN.{length, take, drop, getD, set, length-append, length-take, length-drop, take-append-drop, drop-of-length-le, length-set}
 use lib.Seq.{take-at, drop-at, take-take, take-append-le, sets, sets-eq, set-getD, length-take-le, getD-set-other, getD-take}
 use Rattle.gf2.specs.Word.{Word, digits, number}
-use Rattle.gf2.specs.Check.{crc}
+use Rattle.gf2.specs.Check.{crc, columnSum}
 use Rattle.gf2.specs.Generator.{generator}
 use Rattle.gf2.proofs.Digits.{length-digits, number-digits, number-small, digits-number, digits-add, digits-mod, number-append}
 use Rattle.linecode.specs.Places.{dataPlaces, protectedPlaces, linePlaces, lineBytes, bitsOf, bytesOf, places, lineOf}
-use Rattle.linecode.specs.Code.{protected, dataOf, storedCrc, storedHamming, withCrc}
+use Rattle.linecode.specs.Code.{protected, dataOf, storedCrc, storedHamming, positions, withCrc, withHamming}
 use Rattle.linecode.proofs.Bytes.{Bytes, bytes-take, bytes-append, byte-at, length-bitsOf, bitsOf-append, take-bitsOf}
 use Rattle.linecode.proofs.Line.{protected-is, data-is, sixty-four, dataOf-line, split-three, lineOf-bits, crcEnd, hammingEnd, length-crcEnd, length-front, places-line, protected-line, storedHamming-line}
+use Rattle.linecode.proofs.Positions.{position-sum-lt, withHamming-digits}
 
 -- three bytes stored from byte 67 on
 store-three : (l : List ℕ) → length l ≡ 70 → (x y z : ℕ) → sets l 67 (x ∷ y ∷ z ∷ []) ≡ take 67 l ++ (x ∷ y ∷ z ∷ [])
@@ -67,7 +68,7 @@ module _ (l : List ℕ) (whole : length l ≡ 70) (bytes : Bytes l) where
       m = set l 67 (getD l 67 0 % 128)
 
   -- ten bits of a number stored as the Hamming bits
-  pub stored-ten : (s : ℕ) → s < 1024
+  stored-ten : (s : ℕ) → s < 1024
       → sets l 67 (getD l 67 0 % 128 ∷ s % 256 ∷ s / 256 ∷ []) ≡ lineOf (protected (places l) ++ digits 10 s)
   stored-ten s h =
       store-three l whole (getD l 67 0 % 128) (s % 256) (s / 256) ∙ with-ten (digits 10 s) (s % 256) (s / 256) two
@@ -77,6 +78,14 @@ module _ (l : List ℕ) (whole : length l ≡ 70) (bytes : Bytes l) where
           ap (bytesOf 2) (digits-add 8 2 s)
           ∙ ap₂ (λ (y z : ℕ). y ∷ z ∷ []) (number-digits 8 s)
           (number-digits 2 (s / 256) ∙ omega arith)
+
+  -- the sum of the positions stored as the Hamming bits
+  pub stored-sum : (s : ℕ) → s ≡ columnSum positions (protected (places l))
+      → sets l 67 (getD l 67 0 % 128 ∷ s % 256 ∷ s / 256 ∷ []) ≡ lineOf (withHamming (protected (places l)))
+  stored-sum s e =
+      stored-ten s (omega (arith, position-sum-lt (protected (places l))))
+      ∙ ap (λ (n : ℕ). lineOf (protected (places l) ++ digits 10 n)) e
+      ∙ ap lineOf (sym (withHamming-digits (protected (places l))))
 
   -- ---- the data and the CRC
   length-data : length (bitsOf (take 64 l)) ≡ dataPlaces

@@ -2,6 +2,7 @@
 use mathlib.Core.Bool.{false}
 use mathlib.Core.List.{List, [], _∷_, _++_}
 use Prim.Native.Nat.{ℕ, zero, suc, _+_}
+use lib.Bits.{bitXor}
 use lib.ListN.{take, drop, replicate}
 use Rattle.gf2.specs.Word.{Word, digits, number}
 
@@ -47,3 +48,9 @@ places line = take protectedPlaces (bitsOf line) ++ take hammingPlaces (drop (su
 -- the 70 bytes of 553 places, spare bits 0
 unfoldable pub lineOf : Word → List ℕ
 lineOf w = bytesOf lineBytes (take protectedPlaces w ++ (false ∷ drop protectedPlaces w))
+
+-- the exclusive or of bytes, one by one, spare bits too: between functions only, no rule of document 01
+abbrev pub xorBytes : List ℕ → List ℕ → List ℕ
+xorBytes [] y = []
+xorBytes (a ∷ x) [] = []
+xorBytes (a ∷ x) (b ∷ y) = bitXor a b ∷ xorBytes x y

@@ -710,14 +710,21 @@ pub fn answer_to(syndrome: u16) -> Answer
     Answer::Protected((syndrome - k - 1) as usize)
 }
 
-// The protected places with their Hamming bits written afresh, spare bits 0.
-pub fn append(line: [u8; 70]) -> [u8; 70]
+// The protected places with the sum of their positions as Hamming bits, spare bits 0. Public for the crates above, which have the sum.
+pub fn with_bits(line: [u8; 70], sum: u16) -> [u8; 70]
+    requires { ⌜ sum ≡ columnSum positions (protected (places line)) ⌝ }
     ensures { λ r. ⌜ r ≡ lineOf (withHamming (protected (places line))) ⌝ }
 {
-    let sum = position_sum(line);
     let mut whole = line;
     whole[67] = whole[67] % 128;
     whole[68] = (sum % 256) as u8;
     whole[69] = (sum / 256) as u8;
     whole
+}
+
+// The protected places with their Hamming bits written afresh, spare bits 0.
+pub fn append(line: [u8; 70]) -> [u8; 70]
+    ensures { λ r. ⌜ r ≡ lineOf (withHamming (protected (places line))) ⌝ }
+{
+    with_bits(line, position_sum(line))
 }

@@ -3,7 +3,7 @@ ghost use mathlib.Core.Bool.{false};
 ghost use mathlib.Core.Path.{_≡_};
 ghost use lib.ListN.{getD};
 ghost use Rattle.gf2.specs.Word.{_⊕_, flip};
-ghost use Rattle.linecode.specs.Places.{places, lineOf, loaded};
+ghost use Rattle.linecode.specs.Places.{places, lineOf, loaded, xorBytes};
 
 // The first 70 bytes of a slice, zeros where it is shorter.
 pub fn load(s: &[u8]) -> [u8; 70]
@@ -32,9 +32,9 @@ pub fn clear_spare(line: [u8; 70]) -> [u8; 70]
     cleared
 }
 
-// The exclusive or of two lines, spare bits 0.
-pub fn xor_lines(a: [u8; 70], b: [u8; 70]) -> [u8; 70]
-    ensures { λ r. ⌜ r ≡ lineOf (places a ⊕ places b) ⌝ }
+// The exclusive or of two lines, byte by byte: spare bits too, so that for lines whose spare bits are 0 it is all that is wanted.
+pub fn xor_bytes(a: [u8; 70], b: [u8; 70]) -> [u8; 70]
+    ensures { λ r. ⌜ r ≡ xorBytes a b ⌝ }
 {
     let mut sum = a;
     let mut i = 0;
@@ -42,7 +42,14 @@ pub fn xor_lines(a: [u8; 70], b: [u8; 70]) -> [u8; 70]
         sum[i] = sum[i] ^ b[i];
         i += 1;
     }
-    clear_spare(sum)
+    sum
+}
+
+// The exclusive or of two lines, spare bits 0.
+pub fn xor_lines(a: [u8; 70], b: [u8; 70]) -> [u8; 70]
+    ensures { λ r. ⌜ r ≡ lineOf (places a ⊕ places b) ⌝ }
+{
+    clear_spare(xor_bytes(a, b))
 }
 
 // Whether place i is set; past the last place none is.

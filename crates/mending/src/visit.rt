@@ -5,7 +5,7 @@ ghost use Prim.Native.Nat.{ℕ, _*_, _≤_, _<_};
 ghost use lib.ListN.{length, getD, take, set};
 ghost use Rattle.gf2.specs.Word.{Word};
 ghost use Rattle.linecode.specs.Places.{linePlaces, lineOf};
-ghost use Rattle.register.specs.Slices.{sliceTable};
+ghost use Rattle.sweep.specs.Table.{lineTable};
 ghost use Rattle.scheme.specs.Layer.{readLine};
 ghost use Rattle.scheme.specs.Visit.{State, tryLines, settle, trial as trial·, visit};
 ghost use Rattle.rectangle.specs.Store.{lineLayer, stride};
@@ -13,9 +13,9 @@ ghost use Rattle.mending.specs.Lent.{Ready, Carried, Makes, Numbered, gr
 use crate::group;
 use crate::group::Chosen;
 use crate::group::Places;
-use linecode::alone;
 use linecode::place;
 use rectangle::lines;
+use sweep::reading;
 
 // A faulty line is mended: the new line and its mark are written, and its row and its column learn of the change and have one faulty line less.
 pub fn mend(
@@ -49,7 +49,7 @@ pub fn mend(
 // Each faulty line of the group in rising order tries each place in rising order: flip it, read the line alone. The first accepted
 // trial ends the search for that line.
 pub fn trial(
-    slices: &[u32; 4096],
+    table: &[u64; 4096],
     out: &mut [u8],
     marks: &mut [u8],
     lacks: &mut [u8],
@@ -59,7 +59,7 @@ pub fn trial(
     chosen: Chosen,
     tries: Places,
 )
-    requires table { ⌜ now slices ≡ sliceTable ⌝ }
+    requires table { ⌜ now table ≡ lineTable ⌝ }
     requires ready { ⌜ Ready rows columns (now out) (now marks) (now lacks) (now faulty) ⌝ }
     requires group { ⌜ Numbered rows columns (chosen .group) (chosen .first) (chosen .step) (chosen .count) × (tries .count ≤ 6) × (length (tries .at) ≡ 6) ⌝ }
     ensures { λ _. ⌜ Makes rows columns (now (out .entry)) (now (marks .entry)) (now (lacks .entry)) (now (faulty .entry)) (now (out .exit)) (now (marks .exit)) (now (lacks .exit)) (now (faulty .exit)) (λ parity s. tryLines (readLine lineLayer) (take (tries .count) (tries .at)) s (stride (chosen .first) (chosen .step) (chosen .count))) ⌝ }
@@ -74,7 +74,7 @@ pub fn trial(
             let line = lines::line_at(out, n);
             let mut j = 0;
             'search: while j < few {
-                let tried = alone::read_by(slices, place::flip_place(line, at[j]));
+                let tried = reading::read(table, place::flip_place(line, at[j]));
                 if tried.mark != 4 {
                     let read = tried.line;
                     mend(out, marks, lacks, faulty, rows, columns, n, read, 2);
@@ -113,7 +113,7 @@ pub fn settle_group(
 
 // Where two or more lines are faulty, the difference is the mismatch; if it has 1 to 6 places, the faulty lines try them.
 pub fn try_group(
-    slices: &[u32; 4096],
+    table: &[u64; 4096],
     out: &mut [u8],
     marks: &mut [u8],
     lacks: &mut [u8],
@@ -122,7 +122,7 @@ pub fn try_group(
     columns: usize,
     chosen: Chosen,
 )
-    requires table { ⌜ now slices ≡ sliceTable ⌝ }
+    requires table { ⌜ now table ≡ lineTable ⌝ }
     requires ready { ⌜ Ready rows columns (now out) (now marks) (now lacks) (now faulty) ⌝ }
     requires group { ⌜ Numbered rows columns (chosen .group) (chosen .first) (chosen .step) (chosen .count) ⌝ }
     ensures { λ _. ⌜ Makes rows columns (now (out .entry)) (now (marks .entry)) (now (lacks .entry)) (now (faulty .entry)) (now (out .exit)) (now (marks .exit)) (now (lacks .exit)) (now (faulty .exit)) (λ parity. trial· (readLine lineLayer) (groupOf rows columns parity (chosen .group))) ⌝ }
@@ -139,7 +139,7 @@ pub fn try_group(
         return;
     }
     trial(
-        slices,
+        table,
         out,
         marks,
         lacks,
@@ -153,7 +153,7 @@ pub fn try_group(
 
 // A visit: the trials, then the rebuilding.
 pub fn visit_group(
-    slices: &[u32; 4096],
+    table: &[u64; 4096],
     out: &mut [u8],
     marks: &mut [u8],
     lacks: &mut [u8],
@@ -162,11 +162,11 @@ pub fn visit_group(
     columns: usize,
     chosen: Chosen,
 )
-    requires table { ⌜ now slices ≡ sliceTable ⌝ }
+    requires table { ⌜ now table ≡ lineTable ⌝ }
     requires ready { ⌜ Ready rows columns (now out) (now marks) (now lacks) (now faulty) ⌝ }
     requires group { ⌜ Numbered rows columns (chosen .group) (chosen .first) (chosen .step) (chosen .count) ⌝ }
     ensures { λ _. ⌜ Makes rows columns (now (out .entry)) (now (marks .entry)) (now (lacks .entry)) (now (faulty .entry)) (now (out .exit)) (now (marks .exit)) (now (lacks .exit)) (now (faulty .exit)) (λ parity. visit (readLine lineLayer) (groupOf rows columns parity (chosen .group))) ⌝ }
 {
-    try_group(slices, out, marks, lacks, faulty, rows, columns, chosen);
+    try_group(table, out, marks, lacks, faulty, rows, columns, chosen);
     settle_group(out, marks, lacks, faulty, rows, columns, chosen);
 }

@@ -6,9 +6,10 @@ use linecode::place;
 ghost use mathlib.Core.Path.{_≡_};
 ghost use Prim.Native.Nat.{suc, _*_, _≤_};
 ghost use lib.ListN.{length};
-ghost use Rattle.linecode.specs.Places.{places};
+ghost use Rattle.linecode.specs.Places.{places, xorBytes};
 ghost use Rattle.linecode.specs.Entry.{reading};
 ghost use Rattle.register.specs.Slices.{sliceTable};
+ghost use Rattle.sweep.specs.Table.{lineTable};
 ghost use Rattle.rectangle.specs.Store.{bytesAt, putBytes};
 ghost use Rattle.rectangle.specs.Change.{addTo};
 
@@ -72,6 +73,39 @@ pub fn alone_by(slices: &[u32; 4096], buffer: &[u8], n: usize) -> Reading
     ensures { λ r. ⌜ r ≡ reading (bytesAt (now (buffer .entry)) n) ⌝ }
 {
     alone::read_by(slices, line_at(buffer, n))
+}
+
+// Line n of a buffer as it reads alone, written as line m of another: its mark. An untouched line is copied and its last bytes are stored
+// over the copy: a line patched on the stack and copied at once would make the processor wait.
+pub fn read_into(table: &[u64; 4096], found: &[u8], n: usize, out: &mut [u8], m: usize) -> u8
+    requires { ⌜ (now table ≡ lineTable) × (suc n * 70 ≤ length (now found)) × (suc m * 70 ≤ length (now out)) ⌝ }
+    ensures { λ r. ⌜ (now (out .exit) ≡ putBytes (now (out .entry)) m (reading (bytesAt (now (found .entry)) n) .line))
+        × (r ≡ reading (bytesAt (now (found .entry)) n) .mark) ⌝ }
+{
+    let line = line_at(found, n);
+    let sums = sweep::sums_of(table, line);
+    if sums.accepted {
+        put_line(out, m, line);
+        let at = m * 70;
+        out[at + 67] = line[67] % 128;
+        out[at + 68] = (sums.positions % 256) as u8;
+        out[at + 69] = (sums.positions / 256) as u8;
+        return 0;
+    }
+    let read = sweep::reading::read_hurt(table, line, sums.positions);
+    let corrected = read.line;
+    put_line(out, m, corrected);
+    read.mark
+}
+
+// A line put into line k of some sums by exclusive or, byte by byte.
+pub fn add_line(sums: &mut [u8], k: usize, line: [u8; 70])
+    requires { ⌜ suc k * 70 ≤ length (now sums) ⌝ }
+    ensures { λ _. ⌜ now (sums .exit) ≡ putBytes (now (sums .entry)) k (xorBytes (bytesAt (now (sums .entry)) k) line) ⌝ }
+{
+    let before = line_at(sums, k);
+    let after = place::xor_bytes(before, line);
+    put_line(sums, k, after);
 }
 
 // The parity line of a row, written.

@@ -6,5 +6,6 @@ pub mod Counting
 pub mod Passing
 pub mod Running
 pub mod FirstReading
+pub mod Adding
 pub mod Sweeping
 pub mod Handing

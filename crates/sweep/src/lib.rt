@@ -1,5 +1,7 @@
 // Many lines: both sums of a line, for its CRC and for its Hamming bits, from one table that the entry point lends.
 // Public for the crates above, which bind the table once; what these functions ask, their entry points have made.
+pub mod reading;
+
 use linecode::crc;
 use linecode::hamming;
 ghost use mathlib.Core.Path.{_≡_};

@@ -1,74 +1,28 @@
--- `linecode::place::xor_lines` meets its contract. After i turns the first i bytes are summed.
-use mathlib.Core.Path.{_≡_, refl, sym, ap, _∙_}
-use Prim.Native.Nat.{ℕ, _+_, _-_, _≤_, _<_}
-use native.Mathlib.Omega.{arith}
+-- `linecode::place::xor_lines` meets its contract.
 use borrow.Author.Needs.{needs}
+use mathlib.Core.Path.{ap, _∙_}
 use mathlib.Core.List.{List}
-use lib.ListN.{length}
+use Prim.Native.Nat.{ℕ}
 use Rattle.linecode.specs.Places.{places, lineOf}
-use Rattle.linecode.proofs.Bytes.{array-length, xorFirst, xorFirst-turn, xorFirst-all}
+use Rattle.linecode.proofs.Bytes.{array-length}
 use Rattle.linecode.proofs.Line.{places-xor}
 use Rattle.linecode.proofs.place.xor_lines.Statement.{statement}
 use Rattle.linecode.proofs.place.xor_lines.Tie as tie
 
-abbrev Inv-loop : tie.InvT-loop
-Inv-loop b sum₀ i₀ sum i = (i ≤ 70) × (length sum₀ ≡ 70) × (length b ≡ 70) × (sum ≡ xorFirst i sum₀ b)
+xor-bytes-requires : tie.Need-xor-bytes-requires
+xor-bytes-requires c κs = search needs
 
-abbrev μ-loop : tie.MeasureT-loop
-μ-loop b sum₀ i₀ sum i = 70 - i
-
-loop-holds : tie.Need-loop-holds Inv-loop μ-loop
-loop-holds c = (omega arith, array-length 70 (c .args .a) _ (c .good .0), array-length 70 (c .args .t2) _ (c .good .1 .0), refl)
-
-array-read-sum : tie.Need-array-read-sum Inv-loop μ-loop
-array-read-sum c = omega arith
-
-array-read-sum-2 : tie.Need-array-read-sum-2 Inv-loop μ-loop
-array-read-sum-2 c = omega arith
-
-array-write-sum : tie.Need-array-write-sum Inv-loop μ-loop
-array-write-sum c = omega arith
-
-add-i : tie.Need-add-i Inv-loop μ-loop
-add-i c = omega arith
-
-loop-less : tie.Need-loop-less Inv-loop μ-loop
-loop-less c = omega arith
-
-loop-again : tie.Need-loop-again Inv-loop μ-loop
-loop-again c =
-    let here = c .before .loop in
-    (omega arith, here .inv .1, here .inv .2, xorFirst-turn (here .i) _ _ (here .sum) (omega arith) (omega arith) (here .inv .3))
-
-clear-spare-requires : tie.Need-clear-spare-requires Inv-loop μ-loop
+clear-spare-requires : tie.Need-clear-spare-requires
 clear-spare-requires c κs = search needs
 
-returns : tie.Need-returns Inv-loop μ-loop
+returns : tie.Need-returns
 returns c =
-    let here = c .before .before .loop in
-    let a = c .before .before .before .args .a in
-    let b = c .before .before .before .args .t2 in
+    let start = c .before .before in
+    let a = start .args .a in
+    let b = start .args .b in
     c .clear-spare .ensures
-    ∙ ap (λ (l : List ℕ). lineOf (places l))
-    (here .inv .3 ∙ ap (λ (i : ℕ). xorFirst i a b) (last (here .i) (here .inv .0) (c .before .loop-test .left))
-    ∙ xorFirst-all 70 a b (here .inv .1) (here .inv .2))
-    ∙ ap lineOf (places-xor a b (here .inv .1) (here .inv .2))
-  where
-    last : (i : ℕ) → i ≤ 70 → 70 ≤ i → i ≡ 70
-    last i h k = omega arith
+    ∙ ap (λ (l : List ℕ). lineOf (places l)) (c .before .xor-bytes .ensures)
+    ∙ ap lineOf (places-xor a b (array-length 70 a _ (start .good .0)) (array-length 70 b _ (start .good .1 .0)))
 
 pub xor-lines-spec : {M : Type 1} → statement M
-xor-lines-spec =
-    tie.close
-    (tie.spec
-    Inv-loop
-    μ-loop
-    loop-holds
-    array-read-sum
-    array-read-sum-2
-    array-write-sum
-    add-i
-    loop-less
-    loop-again
-    clear-spare-requires
-    returns)
+xor-lines-spec = tie.close (tie.spec xor-bytes-requires clear-spare-requires returns)

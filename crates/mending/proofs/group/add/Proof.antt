@@ -1,4 +1,4 @@
--- `repair::group::add` meets its contract.
+-- `mending::group::add` meets its contract.
 use borrow.Author.Needs.{needs}
 use mathlib.Core.Path.{ap, _∙_}
 use mathlib.Core.List.{List}

@@ -1,4 +1,4 @@
--- `repair::group::after_place` meets its contract.
+-- `mending::group::after_place` meets its contract.
 use borrow.Author.Needs.{needs}
 use native.Mathlib.Omega.{arith}
 use Rattle.linecode.proofs.Bytes.{array-length}

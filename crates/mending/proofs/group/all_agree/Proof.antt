@@ -1,4 +1,4 @@
--- `repair::group::all_agree` meets its contract.
+-- `mending::group::all_agree` meets its contract.
 use borrow.Author.Needs.{needs}
 use native.Mathlib.Omega.{arith}
 use mathlib.Core.Path.{sym, ap, _∙_}

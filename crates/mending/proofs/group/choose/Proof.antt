@@ -1,4 +1,4 @@
--- `repair::group::choose` meets its contract.
+-- `mending::group::choose` meets its contract.
 use native.Mathlib.Omega.{arith}
 use mathlib.Core.Path.{refl}
 use Prim.Native.Nat.{_≤_}

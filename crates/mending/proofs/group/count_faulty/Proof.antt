@@ -1,4 +1,4 @@
--- `repair::group::count_faulty` meets its contract.
+-- `mending::group::count_faulty` meets its contract.
 use native.Mathlib.Omega.{arith}
 use mathlib.Core.Path.{_≡_, refl, sym, ap, _∙_}
 use Prim.Native.Nat.{ℕ, _+_, _-_, _*_, _≤_}

@@ -1,4 +1,4 @@
--- `repair::group::first_faulty` meets its contract.
+-- `mending::group::first_faulty` meets its contract.
 use native.Mathlib.Omega.{arith}
 use Prim.Native.Nat.{_-_}
 use Rattle.mending.proofs.Walk.{walk-in, walk-small}

@@ -1,4 +1,4 @@
--- `repair::group::is_zero` meets its contract.
+-- `mending::group::is_zero` meets its contract.
 use native.Mathlib.Omega.{arith}
 use Prim.Native.Nat.{_-_}
 use borrow.Author.Tests.{eq-eqb, ne-eqb}

@@ -1,4 +1,4 @@
--- `repair::group::set_places` meets its contract.
+-- `mending::group::set_places` meets its contract.
 use borrow.Author.Needs.{needs}
 use native.Mathlib.Omega.{arith}
 use Prim.Native.Nat.{_+_, _-_, _≤_, _<_}

@@ -1,4 +1,4 @@
--- `repair::visit::mend` meets its contract.
+-- `mending::visit::mend` meets its contract.
 use borrow.Author.Needs.{needs}
 use native.Mathlib.Omega.{arith}
 use Prim.Native.Nat.{_+_, _-_, _/_, _%_}

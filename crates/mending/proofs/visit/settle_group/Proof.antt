@@ -1,4 +1,4 @@
--- `repair::visit::settle_group` meets its contract.
+-- `mending::visit::settle_group` meets its contract.
 use borrow.Author.Needs.{needs}
 use native.Mathlib.Omega.{arith}
 use mathlib.Core.Path.{subst}

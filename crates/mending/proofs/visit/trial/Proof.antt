@@ -1,4 +1,4 @@
--- `repair::visit::trial` meets its contract: after i turns the first i lines of the group have tried the places.
+-- `mending::visit::trial` meets its contract: after i turns the first i lines of the group have tried the places.
 use native.Mathlib.Omega.{arith}
 use mathlib.Core.Path.{_≡_, refl, sym, ap, _∙_, subst}
 use mathlib.Core.Logic.{⊎-elim}
@@ -15,18 +15,18 @@ use Rattle.mending.proofs.visit.trial.Statement.{statement}
 use Rattle.mending.proofs.visit.trial.Tie as tie
 
 abbrev Inv-search : tie.InvT-search
-Inv-search slices out₀ marks₀ lacks₀ faulty₀ rows columns chosen at few count n i line j₀ out marks lacks faulty j =
+Inv-search table out₀ marks₀ lacks₀ faulty₀ rows columns chosen at few count n i line j₀ out marks lacks faulty j =
     (out ≡ out₀) × (marks ≡ marks₀) × (lacks ≡ lacks₀) × (faulty ≡ faulty₀) × (length line ≡ 70) × (line ≡ bytesAt out₀ n) × Searching line (take few at) n j
 
 abbrev μ-search : tie.MeasureT-search
-μ-search slices out₀ marks₀ lacks₀ faulty₀ rows columns chosen at few count n i line j₀ out marks lacks faulty j = few - j
+μ-search table out₀ marks₀ lacks₀ faulty₀ rows columns chosen at few count n i line j₀ out marks lacks faulty j = few - j
 
 abbrev Inv-loop : tie.InvT-loop
-Inv-loop slices out₀ marks₀ lacks₀ faulty₀ rows columns chosen at few count n₀ i₀ out marks lacks faulty n i =
+Inv-loop table out₀ marks₀ lacks₀ faulty₀ rows columns chosen at few count n₀ i₀ out marks lacks faulty n i =
     (few ≤ 6) × (length at ≡ 6) × Trying rows columns out₀ marks₀ lacks₀ faulty₀ n₀ (chosen .step) count (take few at) out marks lacks faulty n i
 
 abbrev μ-loop : tie.MeasureT-loop
-μ-loop slices out₀ marks₀ lacks₀ faulty₀ rows columns chosen at few count n₀ i₀ out marks lacks faulty n i = count - i
+μ-loop table out₀ marks₀ lacks₀ faulty₀ rows columns chosen at few count n₀ i₀ out marks lacks faulty n i = count - i
 
 loop-holds : tie.Need-loop-holds Inv-search μ-search Inv-loop μ-loop
 loop-holds c =
@@ -53,8 +53,8 @@ array-read-flip-place c = omega (arith, c .before .before .before .before .befor
 flip-place-requires : tie.Need-flip-place-requires Inv-search μ-search Inv-loop μ-loop
 flip-place-requires c κs = tt
 
-read-by-requires : tie.Need-read-by-requires Inv-search μ-search Inv-loop μ-loop
-read-by-requires c κs = c .before .before .before .before .before .before .before .before .before .before .before .before .before .before .pre .0
+read-requires : tie.Need-read-requires Inv-search μ-search Inv-loop μ-loop
+read-requires c κs = c .before .before .before .before .before .before .before .before .before .before .before .before .before .before .pre .0
 
 mend-requires : tie.Need-mend-requires Inv-search μ-search Inv-loop μ-loop
 mend-requires c κs = (
@@ -84,7 +84,7 @@ search-again c =
       found .3,
       found .4,
       found .5,
-      searching-next _ _ _ _ (found .6) (found .4) more _ (sym (getD-take (tries .count) (tries .at) _ 0 (c .before .before .before .before .search-test .taken))) _ (c .before .before .before .flip-place .ensures) _ (c .before .before .read-by .ensures) (c .if2 .left),
+      searching-next _ _ _ _ (found .6) (found .4) more _ (sym (getD-take (tries .count) (tries .at) _ 0 (c .before .before .before .before .search-test .taken))) _ (c .before .before .before .flip-place .ensures) _ (c .before .before .read .ensures) (c .if2 .left),
     )
 
 add-n : tie.Need-add-n Inv-search μ-search Inv-loop μ-loop
@@ -155,7 +155,7 @@ trial-spec =
     mul-flip-place
     array-read-flip-place
     flip-place-requires
-    read-by-requires
+    read-requires
     mend-requires
     add-j
     search-less

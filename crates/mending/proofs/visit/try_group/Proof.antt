@@ -1,4 +1,4 @@
--- `repair::visit::try_group` meets its contract: each way out is a case of the trials.
+-- `mending::visit::try_group` meets its contract: each way out is a case of the trials.
 use borrow.Author.Needs.{needs}
 use Rattle.mending.proofs.Mismatching.{few-faulty, no-mismatch, many-places, places-tried}
 use Rattle.mending.proofs.visit.try_group.Statement.{statement}

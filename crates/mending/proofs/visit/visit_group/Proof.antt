@@ -1,4 +1,4 @@
--- `repair::visit::visit_group` meets its contract.
+-- `mending::visit::visit_group` meets its contract.
 use borrow.Author.Needs.{needs}
 use Rattle.scheme.specs.Visit.{visit}
 use Rattle.mending.proofs.Trying.{same-room}

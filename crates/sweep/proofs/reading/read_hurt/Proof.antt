@@ -1,0 +1,95 @@
+-- `sweep::reading::read_hurt` meets its contract: each way out is one of the corrector's cases.
+use borrow.Author.Needs.{needs}
+use mathlib.Core.Path.{_≡_, sym, ap, ap₂, _∙_}
+use mathlib.Core.Bool.{Bool, true, false}
+use mathlib.Core.List.{List}
+use Prim.Native.Nat.{ℕ}
+use lib.Bits.{bitXor}
+use Rattle.linecode.specs.Places.{places}
+use Rattle.linecode.specs.Code.{syndrome, answerTo}
+use Rattle.linecode.specs.Reading.{afterFlip, readAlone}
+use Rattle.linecode.proofs.Bytes.{array-length}
+use Rattle.linecode.proofs.Line.{length-places}
+use Rattle.linecode.proofs.Syndrome.{syndrome-parts}
+use Rattle.linecode.proofs.ReadAlone.{unnamed, second-look, in-bytes}
+use Rattle.sweep.proofs.reading.read_hurt.Statement.{statement}
+use Rattle.sweep.proofs.reading.read_hurt.Tie as tie
+
+stored-requires : tie.Need-stored-requires
+stored-requires c κs = search needs
+
+answer-to-requires : tie.Need-answer-to-requires
+answer-to-requires c κs = search needs
+
+enum-known-i : tie.Need-enum-known-i
+enum-known-i c = search needs
+
+clear-spare-requires : tie.Need-clear-spare-requires
+clear-spare-requires c κs = search needs
+
+-- what the syndrome answers
+answered : (c : tie.After-answer-to) → answerTo (syndrome (places (c .before .before .args .line))) ≡ c .answer-to .result
+answered c =
+    let start = c .before .before in
+    let l = start .args .line in
+    sym (c .answer-to .ensures
+    ∙ ap answerTo
+    (ap₂ bitXor (start .pre .1 .1) (c .before .stored .ensures)
+    ∙ syndrome-parts (places l) (length-places l (array-length 70 l _ (start .good .1 .0)))))
+
+returns : tie.Need-returns
+returns c =
+    let named = c .before .before in
+    let start = named .before .before in
+    ap (λ (x : List ℕ). record { line = x; mark = 4 }) (c .clear-spare .ensures)
+    ∙ in-bytes (start .args .line) _
+    (unnamed _ (named .answer-to .result) (c .before .match .keys2) (start .pre .1 .0) (answered named))
+
+flip-place-requires : tie.Need-flip-place-requires
+flip-place-requires c κs = search needs
+
+sums-of-requires : tie.Need-sums-of-requires
+sums-of-requires c κs = search needs
+
+-- after the second look
+looked : (c : tie.After-sums-of) (t : Bool) → c .sums-of .result .accepted ≡ t
+    → let l = c .before .before .before .before .before .before .before .args .line in
+    readAlone (places l) ≡ afterFlip t (places (c .before .flip-place .result)) (places l)
+looked c t e =
+    let named = c .before .before .before in
+    let start = named .before .before .before .before in
+    let l = start .args .line in
+    second-look l (c .before .flip-place .result) (named .i .given .0 .0) t (array-length 70 l _ (start .good .1 .0)) (start .pre .1 .0)
+    (answered (named .before .before) ∙ named .i .given .1) (c .before .flip-place .ensures) (sym (c .sums-of .ensures .0) ∙ e)
+
+with-bits-requires : tie.Need-with-bits-requires
+with-bits-requires c κs = search needs
+
+returns-2 : tie.Need-returns-2
+returns-2 c =
+    ap (λ (x : List ℕ). record { line = x; mark = 1 }) (c .with-bits .ensures)
+    ∙ in-bytes _ _ (looked (c .before .before) true (c .before .if1 .taken))
+
+clear-spare-requires-2 : tie.Need-clear-spare-requires-2
+clear-spare-requires-2 c κs = search needs
+
+returns-3 : tie.Need-returns-3
+returns-3 c =
+    ap (λ (x : List ℕ). record { line = x; mark = 4 }) (c .clear-spare2 .ensures)
+    ∙ in-bytes _ _ (looked (c .before .before) false (c .before .if1 .left))
+
+pub read-hurt-spec : {M : Type 1} → statement M
+read-hurt-spec =
+    tie.close
+    (tie.spec
+    stored-requires
+    answer-to-requires
+    enum-known-i
+    clear-spare-requires
+    returns
+    flip-place-requires
+    sums-of-requires
+    with-bits-requires
+    returns-2
+    clear-spare-requires-2
+    returns-3)
