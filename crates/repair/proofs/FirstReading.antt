@@ -1,11 +1,11 @@
 -- The first reading, line after line, into the line buffer and the mark buffer.
 use mathlib.Core.Path.{_≡_, refl, sym, ap, ap₂, _∙_, subst}
 use mathlib.Core.List.{List, [], _∷_, _++_, map, append-nil}
-use Prim.Native.Nat.{ℕ, zero, suc, _+_, _*_, _<_}
-use native.Mathlib.Nat.{zero-add}
+use Prim.Native.Nat.{ℕ, zero, suc, _+_, _*_, _≤_, _<_}
+use native.Mathlib.Nat.{zero-add, mul-le-mul-right}
 use native.Mathlib.Omega.{arith}
-use lib.ListN.{length, drop, getD, set, length-map, drop-of-length-le}
-use lib.Seq.{drop-cons, drop-at, set-at, append-snoc}
+use lib.ListN.{length, take, drop, getD, set, length-map, length-set, length-drop, drop-of-length-le, List·getD-append, List·getD-map}
+use lib.Seq.{drop-cons, drop-at, set-at, append-snoc, take-append-le, drop-append-le}
 use Rattle.gf2.specs.Word.{Word}
 use Rattle.linecode.specs.Places.{linePlaces, lineBytes, places, lineOf}
 use Rattle.linecode.specs.Code.{upFrom}
@@ -13,16 +13,17 @@ use Rattle.linecode.specs.Reading.{readAlone}
 use Rattle.linecode.specs.Entry.{reading}
 use Rattle.linecode.specs.declared.alone.Reading.{Reading}
 use Rattle.linecode.proofs.Line.{bytes-is}
-use Rattle.scheme.specs.Layer.{readLine}
-use Rattle.scheme.specs.Visit.{State, lineAt}
+use Rattle.scheme.specs.Layer.{Cell, readLine}
+use Rattle.scheme.specs.Visit.{State, cellAt, lineAt}
 use Rattle.scheme.specs.Repair.{readAll, linesOf, marksOf}
 use Rattle.scheme.proofs.Width.{Wide, wide-at}
 use Rattle.rectangle.specs.Store.{lineLayer, readUnder, bytesAt, placesAt, linesIn, bufferOf, putBytes, putLine, aloneAt}
 use Rattle.rectangle.proofs.Kept.{kept}
-use Rattle.rectangle.proofs.Buffer.{length-bufferOf}
+use Rattle.rectangle.proofs.Buffer.{length-bufferOf, bytesAt-bufferOf}
 use Rattle.rectangle.proofs.Loops.{put-next, reading-wide}
-use Rattle.rectangle.proofs.Members.{length-upFrom}
-use Rattle.repair.specs.Lent.{Holding, Begun, readFirst}
+use Rattle.rectangle.proofs.Members.{length-upFrom, map-upFrom}
+use Rattle.mending.specs.Lent.{Holding}
+use Rattle.repair.specs.Lent.{Begun, readFirst}
 
 pub length-readFirst : (found : List ℕ) (n : ℕ) → length (readFirst found n) ≡ n
 unfolding readFirst
@@ -76,22 +77,21 @@ mark-next ms old n m e h =
     ∙ sym (append-snoc ms m (drop (suc n) old))
 
 -- line n as it was read alone
-pub alone-is : (found line : List ℕ) (n : ℕ) (r : Reading) → line ≡ bytesAt found n → r ≡ reading line
-    → r ≡ record { line = lineOf (aloneAt found n .line); mark = aloneAt found n .mark }
+pub alone-is : (found : List ℕ) (n : ℕ)
+    → reading (bytesAt found n) ≡ record { line = lineOf (aloneAt found n .line); mark = aloneAt found n .mark }
 unfolding reading aloneAt readUnder placesAt
-alone-is found line n r e q =
-    q ∙ ap (λ (l : List ℕ). record { line = lineOf (readAlone (places l) .word); mark = readAlone (places l) .mark }) e
+alone-is found n = refl
 
-pub begun-next : (found out marks : List ℕ) (n : ℕ) (after : List ℕ) (r : Reading) → Begun out marks (readFirst found n) → n < length marks
-    → r ≡ record { line = lineOf (aloneAt found n .line); mark = aloneAt found n .mark } → after ≡ putBytes out n (r .line)
-    → Begun after (set marks n (r .mark)) (readFirst found (suc n))
+pub begun-next : (found out marks : List ℕ) (n : ℕ) (after : List ℕ) (mark : ℕ) → Begun out marks (readFirst found n) → n < length marks
+    → after ≡ putBytes out n (reading (bytesAt found n) .line) → mark ≡ reading (bytesAt found n) .mark
+    → Begun after (set marks n mark) (readFirst found (suc n))
 unfolding putLine
-begun-next found out marks n after r p h alone a =
+begun-next found out marks n after mark p h a q =
     record {
       lines =
           again (bufferOf (linesOf (readFirst found (suc n)))) _ after _
           (a
-          ∙ ap₂ (λ (b : List ℕ) (x : List ℕ). putBytes b n x) (p .lines) (ap (λ (y : Reading). y .line) alone)
+          ∙ ap₂ (λ (b : List ℕ) (x : List ℕ). putBytes b n x) (p .lines) (ap (λ (y : Reading). y .line) (alone-is found n))
           ∙ ap₂ (λ (i j : ℕ). putBytes (bufferOf ws ++ drop (j * i) out) n (lineOf w)) (sym bytes-is) (length-readFirst found n ∙ sym size)
           ∙ ap (λ (j : ℕ). putBytes (bufferOf ws ++ drop (length ws * lineBytes) out) j (lineOf w)) (sym size)
           ∙ put-next ws out w
@@ -100,9 +100,10 @@ begun-next found out marks n after r p h alone a =
           (length-bufferOf (linesOf (readFirst found (suc n)))
           ∙ ap₂ (λ (i j : ℕ). i * j) (length-map (readFirst found (suc n)) (λ c. c .line)) bytes-is);
       marked =
-          again (marksOf (readFirst found (suc n))) (drop (suc n) marks) (set marks n (r .mark)) _
+          again (marksOf (readFirst found (suc n))) (drop (suc n) marks) (set marks n mark) _
           (ap₂ (λ (l : List ℕ) (m : ℕ). set l n m)
-          (p .marked ∙ ap (λ (i : ℕ). marksOf (readFirst found n) ++ drop i marks) (length-readFirst found n)) (ap (λ (y : Reading). y .mark) alone)
+          (p .marked ∙ ap (λ (i : ℕ). marksOf (readFirst found n) ++ drop i marks) (length-readFirst found n))
+          (q ∙ ap (λ (y : Reading). y .mark) (alone-is found n))
           ∙ mark-next (marksOf (readFirst found n)) marks n (aloneAt found n .mark)
           (length-map (readFirst found n) (λ c. c .mark) ∙ length-readFirst found n) h
           ∙ ap (λ (l : List ℕ). l ++ drop (suc n) marks)
@@ -118,6 +119,87 @@ begun-next found out marks n after r p h alone a =
 
     size : length ws ≡ n
     size = length-map (readFirst found n) (λ c. c .line) ∙ length-readFirst found n
+
+-- ---- what stands in the buffers then
+pub cell-read : (found : List ℕ) (n m : ℕ) → m < n → cellAt (readFirst found n) m ≡ aloneAt found m
+unfolding readFirst
+cell-read found n m h = map-upFrom (aloneAt found) 0 n m (record { line = []; mark = 0 }) h ∙ ap (aloneAt found) (zero-add m)
+
+module _ (found out marks : List ℕ) (n : ℕ) (p : Begun out marks (readFirst found n)) (m : ℕ) (h : m < n) where
+  pub begun-mark : getD marks m 0 ≡ aloneAt found m .mark
+  begun-mark =
+      ap (λ (l : List ℕ). getD l m 0) (p .marked)
+      ∙ List·getD-append (marksOf s) (drop (length s) marks) 0 m (omega (arith, length-map s (λ c. c .mark), length-readFirst found n))
+      ∙ List·getD-map (λ c. c .mark) s m (record { line = []; mark = 0 })
+      ∙ ap (λ (c : Cell). c .mark) (cell-read found n m h)
+    where
+      s : State
+      s = readFirst found n
+
+  pub begun-line : bytesAt out m ≡ lineOf (aloneAt found m .line)
+  unfolding bytesAt
+  begun-line =
+      ap (λ (l : List ℕ). take lineBytes (drop (m * lineBytes) l)) (p .lines)
+      ∙ ap (take lineBytes) (drop-append-le (m * lineBytes) (bufferOf ws) rest before)
+      ∙ take-append-le lineBytes (drop (m * lineBytes) (bufferOf ws)) rest enough
+      ∙ bytesAt-bufferOf ws m (omega (arith, size))
+      ∙ ap lineOf (List·getD-map (λ c. c .line) (readFirst found n) m (record { line = []; mark = 0 }) ∙ ap (λ (c : Cell). c .line) (cell-read found n m h))
+    where
+      ws : List Word
+      ws = linesOf (readFirst found n)
+
+      rest : List ℕ
+      rest = drop (length (readFirst found n) * 70) out
+
+      size : length ws ≡ n
+      size = length-map (readFirst found n) (λ c. c .line) ∙ length-readFirst found n
+
+      whole : suc m * lineBytes ≤ length (bufferOf ws)
+      whole = omega (arith, mul-le-mul-right lineBytes h, length-bufferOf ws ∙ ap (λ (k : ℕ). k * lineBytes) size)
+
+      before : m * lineBytes ≤ length (bufferOf ws)
+      before = omega (arith, whole)
+
+      enough : lineBytes ≤ length (drop (m * lineBytes) (bufferOf ws))
+      enough = omega (arith, whole, length-drop (m * lineBytes) (bufferOf ws))
+
+-- ---- a piece: i of its lines are read
+pub record ReadingOn (found out₀ marks₀ : List ℕ) (n count : ℕ) (out marks : List ℕ) (i : ℕ) : Type 0 where
+  pub few : i ≤ count
+  pub outBytes : length out ≡ length marks₀ * 70
+  pub markBytes : length marks ≡ length marks₀
+  pub store : Begun out₀ marks₀ (readFirst found n) → Begun out marks (readFirst found (n + i))
+
+pub reading-start : (found out marks : List ℕ) (n count : ℕ) → length out ≡ length marks * 70 → ReadingOn found out marks n count out marks 0
+reading-start found out marks n count e =
+    record { few = omega arith; outBytes = e; markBytes = refl; store = λ b. subst (λ (k : ℕ). Begun out marks (readFirst found k)) (same n) b }
+  where
+    same : (n : ℕ) → n ≡ n + 0
+    same n = omega arith
+
+pub reading-next : (found out₀ marks₀ : List ℕ) (n count : ℕ) (out marks : List ℕ) (i : ℕ) (after : List ℕ) (mark : ℕ)
+    → ReadingOn found out₀ marks₀ n count out marks i → i < count → n + count ≤ length marks₀ → length after ≡ length out
+    → after ≡ putBytes out (n + i) (reading (bytesAt found (n + i)) .line) → mark ≡ reading (bytesAt found (n + i)) .mark
+    → ReadingOn found out₀ marks₀ n count after (set marks (n + i) mark) (i + 1)
+reading-next found out₀ marks₀ n count out marks i after mark r h inside e a q =
+    record {
+      few = omega arith;
+      outBytes = e ∙ r .outBytes;
+      markBytes = length-set marks (n + i) mark ∙ r .markBytes;
+      store = λ b.
+          subst (λ (k : ℕ). Begun after (set marks (n + i) mark) (readFirst found k)) (next n i)
+          (begun-next found out marks (n + i) after mark (r .store b) (omega (arith, r .markBytes)) a q);
+    }
+  where
+    next : (n i : ℕ) → suc (n + i) ≡ n + (i + 1)
+    next n i = omega arith
+
+pub reading-end : (found out₀ marks₀ : List ℕ) (n count : ℕ) (out marks : List ℕ) (i : ℕ) → ReadingOn found out₀ marks₀ n count out marks i
+    → count ≤ i → Begun out₀ marks₀ (readFirst found n) → Begun out marks (readFirst found (n + count))
+reading-end found out₀ marks₀ n count out marks i r h b = subst (λ (k : ℕ). Begun out marks (readFirst found (n + k))) last (r .store b)
+  where
+    last : i ≡ count
+    last = omega (arith, r .few)
 
 -- all lines are read
 pub begun-end : (found out marks : List ℕ) (count : ℕ) → length found ≡ count * 70 → length out ≡ count * 70 → length marks ≡ count

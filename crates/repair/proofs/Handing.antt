@@ -15,9 +15,11 @@ use Rattle.rectangle.specs.Refusals.{repairRefusal}
 use Rattle.rectangle.specs.Repair.{repaired, handedOver, StoreRepaired, repairStore}
 use Rattle.rectangle.proofs.Buffer.{length-placesAt}
 use Rattle.rectangle.proofs.Runs.{repair-runs, repair-refused}
-use Rattle.repair.specs.Lent.{Beside, Tracked, Carried, RanPasses, Rectangular, Room, membersOf, parityOf, groupOf, allGroups}
-use Rattle.repair.proofs.Numbers.{by-number, row-parity, column-parity, all-groups}
-use Rattle.repair.proofs.Held.{held-count}
+use Rattle.mending.specs.Lent.{Beside, Tracked, Carried, Rectangular, Room, membersOf, groupOf}
+use Rattle.repair.specs.Lent.{RanPasses, parityOf, allGroups}
+use Rattle.mending.proofs.Numbers.{by-number}
+use Rattle.mending.proofs.Held.{held-count}
+use Rattle.repair.proofs.Groups.{row-parity, column-parity, all-groups}
 
 -- ---- no line is read yet
 no-sum : (ns : List ℕ) → sum (lineAt []) ns ≡ []

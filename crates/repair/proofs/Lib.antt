@@ -1,21 +1,11 @@
 -- Laws of repair on lent buffers.
-pub mod Walk
-pub mod Seeking
-pub mod Checking
 pub mod Refusing
-pub mod Numbers
-pub mod Mending
-pub mod Held
-pub mod Added
-pub mod Mended
-pub mod Places
+pub mod Groups
 pub mod Starting
-pub mod Settling
-pub mod Trying
-pub mod Mismatching
 pub mod Counting
 pub mod Passing
 pub mod Running
 pub mod FirstReading
+pub mod Adding
 pub mod Sweeping
 pub mod Handing

@@ -11,11 +11,12 @@ use Rattle.scheme.specs.Layer.{readLine}
 use Rattle.scheme.specs.Visit.{State, trial, visit}
 use Rattle.scheme.specs.Repair.{pass}
 use Rattle.rectangle.specs.Store.{lineLayer}
-use Rattle.repair.specs.Lent.{Room, Carried, Some, Makes, groupOf, allGroups}
-use Rattle.repair.proofs.Numbers.{any-numbered}
-use Rattle.repair.proofs.Settling.{unsettled}
-use Rattle.repair.proofs.Mismatching.{few-faulty}
-use Rattle.repair.proofs.Trying.{four}
+use Rattle.mending.specs.Lent.{Room, Carried, Some, Makes, groupOf}
+use Rattle.repair.specs.Lent.{allGroups}
+use Rattle.mending.proofs.Numbers.{any-numbered}
+use Rattle.mending.proofs.Settling.{unsettled}
+use Rattle.mending.proofs.Mismatching.{few-faulty}
+use Rattle.mending.proofs.Trying.{four}
 
 -- k groups are visited
 pub record Passing (rows columns : ℕ) (out₀ marks₀ lacks₀ faulty₀ out marks lacks faulty : List ℕ) (k : ℕ) : Type 0 where

@@ -1,119 +1,25 @@
--- What the functions of repair ask of lent buffers, and what they make of the store in them.
+-- What the first reading and the passes ask of lent buffers, and what they make of the store in them.
 use mathlib.Core.Path.{_≡_}
-use mathlib.Core.Bool.{Bool, cond}
+use mathlib.Core.Bool.{cond}
 use mathlib.Core.List.{List, _++_, map}
-use Prim.Native.Nat.{ℕ, zero, suc, _+_, _-_, _*_, _≤_, _<_}
-use lib.Dec.{eqb, ltb}
-use lib.ListN.{length, getD, take, drop}
-use Rattle.gf2.specs.Word.{Word, _⊕_}
-use Rattle.linecode.specs.Places.{linePlaces, places, lineOf}
+use Prim.Native.Nat.{ℕ, _+_, _-_, _*_, _≤_, _<_}
+use lib.Dec.{ltb}
+use lib.ListN.{length, getD, drop}
+use Rattle.gf2.specs.Word.{Word}
 use Rattle.linecode.specs.Code.{upFrom}
 use Rattle.scheme.specs.Layer.{readLine}
-use Rattle.scheme.specs.Visit.{Group, State, lineAt, faultyOf, select, sum}
+use Rattle.scheme.specs.Visit.{Group, State}
 use Rattle.scheme.specs.Repair.{passesFrom, linesOf, marksOf}
-use Rattle.rectangle.specs.Store.{lineLayer, placesAt, bytesAt, bufferOf, putBytes, aloneAt, stride, row, column}
-use Rattle.rectangle.specs.Refusals.{every}
-
--- a line buffer and a mark buffer hold the store s: its lines, spare bits 0, and their marks
-pub record Holding (out marks : List ℕ) (s : State) : Type 0 where
-  pub wide : (n : ℕ) → n < length s → length (lineAt s n) ≡ linePlaces
-  pub lines : out ≡ bufferOf (linesOf s)
-  pub marked : marks ≡ marksOf s
-
--- a group of so many lines, from the first on at equal steps, inside k lines; its numbers are small
-pub record Inside (first step count k : ℕ) : Type 0 where
-  pub some : 0 < count
-  pub each : (i : ℕ) → i < count → first + i * step < k
-  pub apart : 0 < step
-  pub small : first + count * step ≤ 1000000
-
--- those of some lines that are marked faulty
-unfoldable pub faultyAmong : List ℕ → List ℕ → List ℕ
-faultyAmong marks members = select (λ n. eqb (getD marks n 0) 4) members
-
--- places of a line in an array with room for six: all of them, or more than six are there
-pub record Listed (all : List ℕ) (count : ℕ) (array : List ℕ) : Type 0 where
-  pub room : length array ≡ 6
-  pub few : count ≤ 6 → take count array ≡ all
-  pub many : 6 < count → 6 < length all
-
--- every byte of a line is 0
-unfoldable pub allZero : List ℕ → Bool
-allZero line = every (λ i. eqb (getD line i 0) 0) (upFrom 0 70)
-
--- a rectangle's sides, with a line buffer and a mark buffer for its lines
-pub record Rectangular (rows columns : ℕ) (out marks : List ℕ) : Type 0 where
-  pub rowsLow : 2 ≤ rows
-  pub rowsHigh : rows ≤ 512
-  pub columnsLow : 2 ≤ columns
-  pub columnsHigh : columns ≤ 512
-  pub outBytes : length out ≡ rows * columns * 70
-  pub markBytes : length marks ≡ rows * columns
-
--- beside them a line and a number for each group
-pub record Room (rows columns : ℕ) (out marks lacks faulty : List ℕ) : Type 0 where
-  pub rect : Rectangular rows columns out marks
-  pub lackBytes : length lacks ≡ 71680
-  pub counts : length faulty ≡ 1024
-
--- the lines of group k in visiting order: the rows, then the columns
-unfoldable pub membersOf : ℕ → ℕ → ℕ → List ℕ
-membersOf rows columns k = cond (ltb k rows) (row columns k) (column rows columns (k - rows))
+use Rattle.rectangle.specs.Store.{lineLayer, placesAt, bytesAt, bufferOf, aloneAt}
+use Rattle.mending.specs.Lent.{Room, groupOf, Beside, Tracked, Carried, Makes}
 
 -- the parity line of group k: from the row table, then from the column table
 unfoldable pub parityOf : ℕ → List ℕ → List ℕ → ℕ → Word
 parityOf rows rowTable columnTable k = cond (ltb k rows) (placesAt rowTable k) (placesAt columnTable (k - rows))
 
--- group k of a rectangle whose parity lines are given
-abbrev pub groupOf : ℕ → ℕ → (ℕ → Word) → ℕ → Group
-groupOf rows columns parity k = record { members = membersOf rows columns k; parity = parity k }
-
 -- all groups, in visiting order
 unfoldable pub allGroups : ℕ → ℕ → (ℕ → Word) → List Group
 allGroups rows columns parity = map (groupOf rows columns parity) (upFrom 0 (rows + columns))
-
--- a group's difference, that is the exclusive or of its lines as they stand and its parity line, and how many of its lines are faulty
-pub record Beside (g : Group) (s : State) (line : List ℕ) (count : ℕ) : Type 0 where
-  pub wide : length (g .parity) ≡ linePlaces
-  pub long : length (sum (lineAt s) (g .members) ⊕ g .parity) ≡ linePlaces
-  pub lack : line ≡ lineOf (sum (lineAt s) (g .members) ⊕ g .parity)
-  pub number : count ≡ length (faultyOf s (g .members))
-
--- the differences and the counts of all groups
-abbrev pub Tracked : ℕ → ℕ → (ℕ → Word) → List ℕ → List ℕ → State → Type 0
-Tracked rows columns parity lacks faulty s =
-    (k : ℕ) → k < rows + columns → Beside (groupOf rows columns parity k) s (bytesAt lacks k) (getD faulty k 0)
-
--- the buffers hold the store s, and what stands beside it is that of s
-pub record Carried (rows columns : ℕ) (parity : ℕ → Word) (out marks lacks faulty : List ℕ) (s : State) : Type 0 where
-  pub held : Holding out marks s
-  pub beside : Tracked rows columns parity lacks faulty s
-
--- the buffers hold some store
-abbrev pub Some : ℕ → ℕ → List ℕ → List ℕ → List ℕ → List ℕ → Type 0
-Some rows columns out marks lacks faulty =
-    (parity : (ℕ → Word)) × (s : State) × Carried rows columns parity out marks lacks faulty s
-
--- buffers that have room and hold some store
-pub record Ready (rows columns : ℕ) (out marks lacks faulty : List ℕ) : Type 0 where
-  pub room : Room rows columns out marks lacks faulty
-  pub held : Some rows columns out marks lacks faulty
-
--- whatever store the buffers hold before, they hold f of it after
-abbrev pub Makes : ℕ → ℕ → List ℕ → List ℕ → List ℕ → List ℕ → List ℕ → List ℕ → List ℕ → List ℕ → ((ℕ → Word) → State → State) → Type 0
-Makes rows columns out marks lacks faulty out′ marks′ lacks′ faulty′ f =
-    (parity : ℕ → Word) (s : State) → Carried rows columns parity out marks lacks faulty s
-    → Carried rows columns parity out′ marks′ lacks′ faulty′ (f parity s)
-
--- group k of a rectangle, given by its first line, the step and the number of its lines
-pub record Numbered (rows columns k first step count : ℕ) : Type 0 where
-  pub listed : k < rows + columns
-  pub lines : stride first step count ≡ membersOf rows columns k
-  pub inside : Inside first step count (rows * columns)
-
--- line k with a change added
-unfoldable pub added : List ℕ → ℕ → List ℕ → List ℕ
-added lacks k change = putBytes lacks k (lineOf (places (bytesAt lacks k) ⊕ places change))
 
 -- whatever store the buffers hold before, they hold what the passes make of it after, and n is the number of passes
 pub record RanPasses (rows columns : ℕ) (out marks lacks faulty out′ marks′ lacks′ faulty′ : List ℕ) (n : ℕ) : Type 0 where
@@ -121,11 +27,6 @@ pub record RanPasses (rows columns : ℕ) (out marks lacks faulty out′ marks�
       (λ parity s. passesFrom (readLine lineLayer) (allGroups rows columns parity) s .cells)
   pub passes : (parity : ℕ → Word) (s : State) → Carried rows columns parity out marks lacks faulty s
       → n ≡ passesFrom (readLine lineLayer) (allGroups rows columns parity) s .passes
-
--- the numbers of the first k groups together
-abbrev pub countTo : List ℕ → ℕ → ℕ
-countTo faulty zero = 0
-countTo faulty (suc k) = countTo faulty k + getD faulty k 0
 
 -- the first n lines as each reads alone
 unfoldable pub readFirst : List ℕ → ℕ → State
@@ -135,6 +36,22 @@ readFirst found n = map (aloneAt found) (upFrom 0 n)
 pub record Begun (out marks : List ℕ) (s : State) : Type 0 where
   pub lines : out ≡ bufferOf (linesOf s) ++ drop (length s * 70) out
   pub marked : marks ≡ marksOf s ++ drop (length s) marks
+
+-- row r is open: what stands beside the other groups is that of the first n lines, and the row's own is carried apart
+pub record RowOpen (rows columns : ℕ) (parity : ℕ → Word) (found lacks faulty : List ℕ) (r n : ℕ) (difference : List ℕ) (hurt : ℕ) : Type 0 where
+  pub others : (k : ℕ) → k < rows + columns → (k ≡ r → ⊥)
+      → Beside (groupOf rows columns parity k) (readFirst found n) (bytesAt lacks k) (getD faulty k 0)
+  pub own : Beside (groupOf rows columns parity r) (readFirst found n) difference hurt
+
+-- some lines of row r, from line n and column c on, are read into the buffers and those before them are added
+pub record Piece (rows columns : ℕ) (parity : ℕ → Word) (found out marks lacks faulty : List ℕ) (r n c count : ℕ) (difference : List ℕ) (hurt : ℕ) : Type 0 where
+  pub room : Room rows columns out marks lacks faulty
+  pub bytes : length found ≡ rows * columns * 70
+  pub listed : r < rows
+  pub here : n ≡ r * columns + c
+  pub inside : c + count ≤ columns
+  pub begun : Begun out marks (readFirst found (n + count))
+  pub opened : RowOpen rows columns parity found lacks faulty r n difference hurt
 
 -- n lines are read
 pub record ReadUpTo (rows columns : ℕ) (parity : ℕ → Word) (found out marks lacks faulty : List ℕ) (n : ℕ) : Type 0 where

@@ -1,9 +1,7 @@
 // Repair of a rectangle: document 01's steps on lent buffers. Document 01, "Repair".
-mod group;
 mod parity;
 mod passes;
 mod reading;
-mod visit;
 
 ghost use mathlib.Core.Path.{_≡_};
 ghost use Prim.Native.Nat.{ℕ, _+_, _*_, _≤_};
@@ -13,7 +11,10 @@ ghost use Rattle.scheme.specs.Visit.{State};
 ghost use Rattle.scheme.specs.Repair.{answer};
 ghost use Rattle.rectangle.specs.Refusals.{repairRefusal};
 ghost use Rattle.rectangle.specs.Repair.{StoreRepaired, repairStore};
-ghost use Rattle.repair.specs.Lent.{Tracked, allGroups};
+ghost use Rattle.sweep.specs.Table.{lineTable};
+ghost use Rattle.mending.specs.Lent.{Tracked};
+ghost use Rattle.repair.specs.Lent.{allGroups};
+use mending::group;
 use rectangle::sizes;
 
 // What repair answers, and its passes.
@@ -22,8 +23,9 @@ pub struct Repaired {
     pub passes: usize,
 }
 
-// The first refusal that fits, or 0.
+// The first refusal that fits, or 0: sizes and lengths before the parity lines, which are read.
 fn refusal(
+    table: &[u64; 4096],
     rows: usize,
     columns: usize,
     lines: &[u8],
@@ -32,6 +34,7 @@ fn refusal(
     out: &[u8],
     marks: &[u8],
 ) -> u32
+    requires { ⌜ now table ≡ lineTable ⌝ }
     ensures { λ r. ⌜ r
         ≡ repairRefusal rows columns (now (lines .entry)) (now («row_table» .entry)) (now («column_table» .entry)) (now (out .entry)) (now (marks .entry)) ⌝ }
 {
@@ -51,10 +54,10 @@ fn refusal(
     if marks.len() != rows * columns {
         return 7;
     }
-    if !parity::rows_correct(rows, row_table) {
+    if !parity::rows_correct(table, rows, row_table) {
         return 9;
     }
-    if !parity::columns_correct(columns, column_table) {
+    if !parity::columns_correct(table, columns, column_table) {
         return 9;
     }
     0
@@ -90,20 +93,29 @@ pub fn repair(
         (record { answer = r .answer; passes = r .passes; lines = now (out .exit); marks = now (marks .exit) })
         (repairStore rows columns (now (lines .entry)) (now («row_table» .entry)) (now («column_table» .entry)) (now (out .entry)) (now (marks .entry))) ⌝ }
 {
-    let turned_back = refusal(rows, columns, lines, row_table, column_table, out, marks);
+    let table = sweep::table();
+    let turned_back = refusal(
+        &table,
+        rows,
+        columns,
+        lines,
+        row_table,
+        column_table,
+        out,
+        marks,
+    );
     if turned_back != 0 {
         return Repaired {
             answer: turned_back,
             passes: 0,
         };
     }
-    let slices = register::slices::slices();
     let mut lacks = [0u8; 71680];
     let mut faulty = [0u16; 1024];
     parity::start_rows(rows, row_table, &mut lacks);
     parity::start_columns(rows, columns, column_table, &mut lacks);
     reading::read_all(
-        &slices,
+        &table,
         lines,
         out,
         marks,
@@ -112,7 +124,7 @@ pub fn repair(
         rows,
         columns,
     );
-    let passes = passes::run_passes(&slices, out, marks, &mut lacks, &mut faulty, rows, columns);
+    let passes = passes::run_passes(&table, out, marks, &mut lacks, &mut faulty, rows, columns);
     let answer = answer_after(rows, columns, &lacks, &faulty);
     Repaired { answer, passes }
 }

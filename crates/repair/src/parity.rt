@@ -7,20 +7,22 @@ ghost use Rattle.linecode.specs.Places.{lineOf};
 ghost use Rattle.linecode.specs.Code.{upFrom, isCorrect};
 ghost use Rattle.rectangle.specs.Store.{placesAt, bytesAt};
 ghost use Rattle.rectangle.specs.Refusals.{every};
+ghost use Rattle.sweep.specs.Table.{lineTable};
 use linecode::place;
 use rectangle::lines;
 use rectangle::lines::ColumnIndex;
 use rectangle::lines::RowIndex;
-use single::alone;
+use sweep::reading;
 
 // Whether each row's parity line is a correct line.
-pub fn rows_correct(rows: usize, row_table: &[u8]) -> bool
-    requires { ⌜ length (now «row_table») ≡ rows * 70 ⌝ }
+pub fn rows_correct(table: &[u64; 4096], rows: usize, row_table: &[u8]) -> bool
+    requires table { ⌜ now table ≡ lineTable ⌝ }
+    requires whole { ⌜ length (now «row_table») ≡ rows * 70 ⌝ }
     ensures { λ r. ⌜ r ≡ every (λ k. isCorrect (placesAt (now («row_table» .entry)) k)) (upFrom 0 rows) ⌝ }
 {
     let mut r = 0;
     while r < rows {
-        if !alone::is_correct(lines::row_parity(row_table, RowIndex(r))) {
+        if !reading::is_correct(table, lines::row_parity(row_table, RowIndex(r))) {
             return false;
         }
         r += 1;
@@ -29,13 +31,14 @@ pub fn rows_correct(rows: usize, row_table: &[u8]) -> bool
 }
 
 // Whether each column's parity line is a correct line.
-pub fn columns_correct(columns: usize, column_table: &[u8]) -> bool
-    requires { ⌜ length (now «column_table») ≡ columns * 70 ⌝ }
+pub fn columns_correct(table: &[u64; 4096], columns: usize, column_table: &[u8]) -> bool
+    requires table { ⌜ now table ≡ lineTable ⌝ }
+    requires whole { ⌜ length (now «column_table») ≡ columns * 70 ⌝ }
     ensures { λ r. ⌜ r ≡ every (λ k. isCorrect (placesAt (now («column_table» .entry)) k)) (upFrom 0 columns) ⌝ }
 {
     let mut c = 0;
     while c < columns {
-        if !alone::is_correct(lines::column_parity(column_table, ColumnIndex(c))) {
+        if !reading::is_correct(table, lines::column_parity(column_table, ColumnIndex(c))) {
             return false;
         }
         c += 1;

@@ -1,17 +1,18 @@
 // Passes over all groups: rows 0 upward, then columns 0 upward. Document 01, "Repair".
 // Public for the crate's other modules; the module is private, and what its functions ask, `repair::repair` has tested or made.
 ghost use mathlib.Core.Path.{_≡_};
-ghost use Rattle.register.specs.Slices.{sliceTable};
 ghost use Rattle.scheme.specs.Layer.{readLine};
 ghost use Rattle.scheme.specs.Repair.{pass};
 ghost use Rattle.rectangle.specs.Store.{lineLayer};
-ghost use Rattle.repair.specs.Lent.{Ready, Makes, allGroups, RanPasses};
-use crate::group;
-use crate::visit;
+ghost use Rattle.sweep.specs.Table.{lineTable};
+ghost use Rattle.mending.specs.Lent.{Ready, Makes};
+ghost use Rattle.repair.specs.Lent.{allGroups, RanPasses};
+use mending::group;
+use mending::visit;
 
 // All groups are visited; one without a faulty line costs a look at its count.
 pub fn visit_all(
-    slices: &[u32; 4096],
+    table: &[u64; 4096],
     out: &mut [u8],
     marks: &mut [u8],
     lacks: &mut [u8],
@@ -19,7 +20,7 @@ pub fn visit_all(
     rows: usize,
     columns: usize,
 )
-    requires table { ⌜ now slices ≡ sliceTable ⌝ }
+    requires table { ⌜ now table ≡ lineTable ⌝ }
     requires ready { ⌜ Ready rows columns (now out) (now marks) (now lacks) (now faulty) ⌝ }
     ensures { λ _. ⌜ Makes rows columns (now (out .entry)) (now (marks .entry)) (now (lacks .entry)) (now (faulty .entry)) (now (out .exit)) (now (marks .exit)) (now (lacks .exit)) (now (faulty .exit)) (λ parity. pass (readLine lineLayer) (allGroups rows columns parity)) ⌝ }
 {
@@ -28,7 +29,7 @@ pub fn visit_all(
     while k < groups {
         if faulty[k] != 0 {
             let chosen = group::choose(rows, columns, k);
-            visit::visit_group(slices, out, marks, lacks, faulty, rows, columns, chosen);
+            visit::visit_group(table, out, marks, lacks, faulty, rows, columns, chosen);
         }
         k += 1;
     }
@@ -36,7 +37,7 @@ pub fn visit_all(
 
 // While some line is faulty, a pass; passes end when none is faulty or a pass mended nothing. Returns their number.
 pub fn run_passes(
-    slices: &[u32; 4096],
+    table: &[u64; 4096],
     out: &mut [u8],
     marks: &mut [u8],
     lacks: &mut [u8],
@@ -44,14 +45,14 @@ pub fn run_passes(
     rows: usize,
     columns: usize,
 ) -> usize
-    requires table { ⌜ now slices ≡ sliceTable ⌝ }
+    requires table { ⌜ now table ≡ lineTable ⌝ }
     requires ready { ⌜ Ready rows columns (now out) (now marks) (now lacks) (now faulty) ⌝ }
     ensures { λ r. ⌜ RanPasses rows columns (now (out .entry)) (now (marks .entry)) (now (lacks .entry)) (now (faulty .entry)) (now (out .exit)) (now (marks .exit)) (now (lacks .exit)) (now (faulty .exit)) r ⌝ }
 {
     let mut passes: usize = 0;
     let mut before = group::count_faulty(rows, faulty);
     while 0 < before {
-        visit_all(slices, out, marks, lacks, faulty, rows, columns);
+        visit_all(table, out, marks, lacks, faulty, rows, columns);
         passes += 1;
         let left = group::count_faulty(rows, faulty);
         if left == before {

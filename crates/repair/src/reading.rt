@@ -1,24 +1,103 @@
 // The first reading: one sweep over all lines, row after row. Document 01, "Repair".
 // Public for the crate's other modules; the module is private, and what its functions ask, `repair::repair` has tested or made.
 ghost use mathlib.Core.Path.{_≡_};
-ghost use mathlib.Core.List.{[]};
-ghost use Prim.Native.Nat.{ℕ, _+_, _*_, _<_};
+ghost use mathlib.Core.List.{List, []};
+ghost use Prim.Native.Nat.{ℕ, _+_, _*_, _≤_, _<_};
 ghost use lib.ListN.{length};
 ghost use Rattle.gf2.specs.Word.{Word};
-ghost use Rattle.register.specs.Slices.{sliceTable};
 ghost use Rattle.scheme.specs.Layer.{readLine};
 ghost use Rattle.scheme.specs.Repair.{readAll};
 ghost use Rattle.rectangle.specs.Store.{lineLayer, linesIn};
-ghost use Rattle.repair.specs.Lent.{Room, ReadUpTo, ReadsOn, Tracked, Carried};
-use crate::group;
+ghost use Rattle.sweep.specs.Table.{lineTable};
+ghost use Rattle.mending.specs.Lent.{Room, Tracked, Carried};
+ghost use Rattle.repair.specs.Lent.{readFirst, Begun, RowOpen, Piece, ReadUpTo, ReadsOn};
 use linecode::place;
 use rectangle::lines;
-use single::alone;
 
-// Each line of row r is read alone into the line buffer, its mark into the mark buffer, and added to its row's and its column's difference.
-// The row's own is carried by value, since every line of the row changes it.
+// A row whose lines are being added: its difference, and how many of its lines are faulty. They are carried by value, since every line
+// of the row changes them.
+pub struct OpenRow {
+    pub difference: [u8; 70],
+    pub faulty: u16,
+}
+
+// Lines n to n + count are read alone into the line buffer, their marks into the mark buffer.
+pub fn read_piece(
+    table: &[u64; 4096],
+    found: &[u8],
+    out: &mut [u8],
+    marks: &mut [u8],
+    n: usize,
+    count: usize,
+)
+    requires table { ⌜ now table ≡ lineTable ⌝ }
+    requires inside { ⌜ (n + count ≤ length (now marks)) × (length (now marks) ≤ 262144) × (length (now found) ≡ length (now marks) * 70) × (length (now out) ≡ length (now marks) * 70) ⌝ }
+    ensures { λ _. ⌜ (Begun (now (out .entry)) (now (marks .entry)) (readFirst (now (found .entry)) n)
+        → Begun (now (out .exit)) (now (marks .exit)) (readFirst (now (found .entry)) (n + count))) ⌝ }
+{
+    let mut i = 0;
+    while i < count {
+        let m = n + i;
+        let mark = lines::read_into(table, found, m, out, m);
+        marks[m] = mark;
+        i += 1;
+    }
+}
+
+// The same lines, now in the line buffer, are added to their row's difference and to their columns', which begin at column c; a faulty
+// one counts in both.
+pub fn add_piece(
+    out: &[u8],
+    marks: &[u8],
+    lacks: &mut [u8],
+    faulty: &mut [u16],
+    rows: usize,
+    n: usize,
+    c: usize,
+    count: usize,
+    row: OpenRow,
+) -> OpenRow
+    requires { ⌜ ((columns : ℕ) × (parity : (ℕ → Word)) × (found : List ℕ) × (r : ℕ) × Piece rows columns parity found (now out) (now marks) (now lacks) (now faulty) r n c count (row .difference) (row .faulty)) ⌝ }
+    ensures { λ s. ⌜ ((columns : ℕ) (parity : ℕ → Word) (found : List ℕ) (r : ℕ) → Piece rows columns parity found (now (out .entry)) (now (marks .entry)) (now (lacks .entry)) (now (faulty .entry)) r n c count (row .difference) (row .faulty)
+        → RowOpen rows columns parity found (now (lacks .exit)) (now (faulty .exit)) r (n + count) (s .difference) (s .faulty)) ⌝ }
+{
+    let mut difference = row.difference;
+    let mut hurt = row.faulty;
+    let mut i = 0;
+    while i < count {
+        let m = n + i;
+        let k = rows + (c + i);
+        let line = lines::line_at(out, m);
+        let next = place::xor_bytes(difference, line);
+        difference = next;
+        lines::add_line(lacks, k, line);
+        if marks[m] == 4 {
+            hurt += 1;
+            faulty[k] += 1;
+        }
+        i += 1;
+    }
+    OpenRow {
+        difference,
+        faulty: hurt,
+    }
+}
+
+// How many lines make a piece, of those left in the row.
+fn piece(left: usize) -> usize
+    requires { ⌜ 0 < left ⌝ }
+    ensures { λ r. ⌜ (0 < r) × (r ≤ left) ⌝ }
+{
+    if 32 < left {
+        return 32;
+    }
+    left
+}
+
+// Row r, in pieces: a line that is read back right after some of its bytes were written anew stalls the processor, so the lines of a
+// piece are added when all of them are read.
 pub fn read_row(
-    slices: &[u32; 4096],
+    table: &[u64; 4096],
     found: &[u8],
     out: &mut [u8],
     marks: &mut [u8],
@@ -29,38 +108,36 @@ pub fn read_row(
     r: usize,
     first: usize,
 )
-    requires table { ⌜ now slices ≡ sliceTable ⌝ }
+    requires table { ⌜ now table ≡ lineTable ⌝ }
     requires room { ⌜ Room rows columns (now out) (now marks) (now lacks) (now faulty) ⌝ }
     requires row { ⌜ (length (now found) ≡ rows * columns * 70) × (r < rows) × (first ≡ r * columns) ⌝ }
     requires some { ⌜ ((parity : (ℕ → Word)) × ReadUpTo rows columns parity (now found) (now out) (now marks) (now lacks) (now faulty) first) ⌝ }
     ensures { λ _. ⌜ ReadsOn rows columns (now (found .entry)) (now (out .entry)) (now (marks .entry)) (now (lacks .entry)) (now (faulty .entry)) (now (out .exit)) (now (marks .exit)) (now (lacks .exit)) (now (faulty .exit)) first (first + columns) ⌝ }
 {
     let mut difference = lines::line_at(lacks, r);
-    let mut count = faulty[r];
-    let mut n = first;
+    let mut hurt = faulty[r];
     let mut c = 0;
     while c < columns {
-        let read = alone::read_by(slices, lines::line_at(found, n));
-        let line = read.line;
-        lines::put_line(out, n, line);
-        marks[n] = read.mark;
-        let next = place::xor_lines(difference, line);
-        difference = next;
-        group::add(lacks, rows + c, line);
-        if read.mark == 4 {
-            count += 1;
-            faulty[rows + c] += 1;
-        }
-        n += 1;
-        c += 1;
+        let count = piece(columns - c);
+        let n = first + c;
+        read_piece(table, found, out, marks, n, count);
+        let row = OpenRow {
+            difference,
+            faulty: hurt,
+        };
+        let next = add_piece(out, marks, lacks, faulty, rows, n, c, count, row);
+        let sum = next.difference;
+        difference = sum;
+        hurt = next.faulty;
+        c += count;
     }
     lines::put_line(lacks, r, difference);
-    faulty[r] = count;
+    faulty[r] = hurt;
 }
 
 // All rows are read.
 pub fn read_all(
-    slices: &[u32; 4096],
+    table: &[u64; 4096],
     found: &[u8],
     out: &mut [u8],
     marks: &mut [u8],
@@ -69,7 +146,7 @@ pub fn read_all(
     rows: usize,
     columns: usize,
 )
-    requires table { ⌜ now slices ≡ sliceTable ⌝ }
+    requires table { ⌜ now table ≡ lineTable ⌝ }
     requires room { ⌜ Room rows columns (now out) (now marks) (now lacks) (now faulty) ⌝ }
     requires lines { ⌜ length (now found) ≡ rows * columns * 70 ⌝ }
     requires some { ⌜ ((parity : (ℕ → Word)) × Tracked rows columns parity (now lacks) (now faulty) []) ⌝ }
@@ -80,7 +157,7 @@ pub fn read_all(
     let mut r = 0;
     while r < rows {
         read_row(
-            slices,
+            table,
             found,
             out,
             marks,

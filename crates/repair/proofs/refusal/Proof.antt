@@ -39,13 +39,13 @@ returns-3 : tie.Need-returns-3
 returns-3 c = refused-marks _ _ _ _ _ _ _ (sizes (c .before .before)) (c .before .if2 .left) (c .if3 .taken)
 
 rows-correct-requires : tie.Need-rows-correct-requires
-rows-correct-requires c κs = sizes (c .before .before) .rowBytes
+rows-correct-requires c κs = (c .before .before .before .before .before .before .before .before .before .pre, sizes (c .before .before) .rowBytes)
 
 returns-4 : tie.Need-returns-4
 returns-4 c = parity-decides _ _ _ _ _ _ _ (sizes (c .before .before .before .before)) (c .before .before .before .if2 .left) (c .before .before .if3 .left) false _ (sym (c .before .rows-correct .ensures) ∙ not-true _ (c .if4 .taken)) (refl)
 
 columns-correct-requires : tie.Need-columns-correct-requires
-columns-correct-requires c κs = sizes (c .before .before .before .before) .columnBytes
+columns-correct-requires c κs = (c .before .before .before .before .before .before .before .before .before .before .before .pre, sizes (c .before .before .before .before) .columnBytes)
 
 returns-5 : tie.Need-returns-5
 returns-5 c = parity-decides _ _ _ _ _ _ _ (sizes (c .before .before .before .before .before .before)) (c .before .before .before .before .before .if2 .left) (c .before .before .before .before .if3 .left) true false (sym (c .before .before .before .rows-correct .ensures) ∙ not-false _ (c .before .before .if4 .left)) (sym (c .before .columns-correct .ensures) ∙ not-true _ (c .if5 .taken))

@@ -8,24 +8,24 @@ use borrow.Author.Tests.{not-true, not-false}
 use Rattle.linecode.specs.Places.{places}
 use Rattle.linecode.specs.Code.{isCorrect}
 use Rattle.rectangle.specs.Store.{placesAt}
-use Rattle.repair.proofs.Checking.{Checked, checked-start, checked-next, checked-failed, checked-end}
+use Rattle.mending.proofs.Checking.{Checked, checked-start, checked-next, checked-failed, checked-end}
 use Rattle.repair.proofs.parity.columns_correct.Statement.{statement}
 use Rattle.repair.proofs.parity.columns_correct.Tie as tie
 
 abbrev Inv-loop : tie.InvT-loop
-Inv-loop columns column-table c₀ c = Checked (λ k. isCorrect (placesAt column-table k)) columns c
+Inv-loop table columns column-table c₀ c = Checked (λ k. isCorrect (placesAt column-table k)) columns c
 
 abbrev μ-loop : tie.MeasureT-loop
-μ-loop columns column-table c₀ c = columns - c
+μ-loop table columns column-table c₀ c = columns - c
 
 loop-holds : tie.Need-loop-holds Inv-loop μ-loop
 loop-holds c = checked-start _ _
 
 column-parity-requires : tie.Need-column-parity-requires Inv-loop μ-loop
-column-parity-requires c κs = omega (arith, c .before .before .before .pre, mul-le-mul-right 70 (c .loop-test .taken))
+column-parity-requires c κs = omega (arith, c .before .before .before .pre .1, mul-le-mul-right 70 (c .loop-test .taken))
 
 is-correct-requires : tie.Need-is-correct-requires Inv-loop μ-loop
-is-correct-requires c κs = tt
+is-correct-requires c κs = c .before .before .before .before .pre .0
 
 returns : tie.Need-returns Inv-loop μ-loop
 unfolding placesAt

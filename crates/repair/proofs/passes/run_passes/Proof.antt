@@ -2,16 +2,16 @@
 use native.Mathlib.Omega.{arith}
 use mathlib.Core.Path.{sym, _∙_}
 use native.Mathlib.Nat.{mul-le-mul-right}
-use Rattle.repair.proofs.Trying.{same-room}
+use Rattle.mending.proofs.Trying.{same-room}
 use Rattle.repair.proofs.Running.{Running, running-start, running-some, running-end, running-idle, running-less, running-next}
 use Rattle.repair.proofs.passes.run_passes.Statement.{statement}
 use Rattle.repair.proofs.passes.run_passes.Tie as tie
 
 abbrev Inv-loop : tie.InvT-loop
-Inv-loop slices out₀ marks₀ lacks₀ faulty₀ rows columns passes₀ before₀ out marks lacks faulty passes before = Running rows columns out₀ marks₀ lacks₀ faulty₀ out marks lacks faulty passes before
+Inv-loop table out₀ marks₀ lacks₀ faulty₀ rows columns passes₀ before₀ out marks lacks faulty passes before = Running rows columns out₀ marks₀ lacks₀ faulty₀ out marks lacks faulty passes before
 
 abbrev μ-loop : tie.MeasureT-loop
-μ-loop slices out₀ marks₀ lacks₀ faulty₀ rows columns passes₀ before₀ out marks lacks faulty passes before = before
+μ-loop table out₀ marks₀ lacks₀ faulty₀ rows columns passes₀ before₀ out marks lacks faulty passes before = before
 
 count-faulty-requires : tie.Need-count-faulty-requires Inv-loop μ-loop
 count-faulty-requires c κs =

@@ -3,18 +3,18 @@ use native.Mathlib.Omega.{arith}
 use mathlib.Core.Path.{_≡_, refl, sym, _∙_}
 use mathlib.Core.Logic.{⊎-elim}
 use Prim.Native.Nat.{_+_, _-_}
-use Rattle.repair.proofs.Numbers.{renumber}
-use Rattle.repair.proofs.Trying.{same-room}
+use Rattle.mending.proofs.Numbers.{renumber}
+use Rattle.mending.proofs.Trying.{same-room}
 use Rattle.repair.proofs.Passing.{Passing, passing-start, passing-some, passing-next, passing-idle, passing-end, repass}
 use Rattle.repair.proofs.passes.visit_all.Statement.{statement}
 use Rattle.repair.proofs.passes.visit_all.Tie as tie
 
 abbrev Inv-loop : tie.InvT-loop
-Inv-loop slices out₀ marks₀ lacks₀ faulty₀ rows columns groups k₀ out marks lacks faulty k =
+Inv-loop table out₀ marks₀ lacks₀ faulty₀ rows columns groups k₀ out marks lacks faulty k =
     (groups ≡ rows + columns) × Passing rows columns out₀ marks₀ lacks₀ faulty₀ out marks lacks faulty k
 
 abbrev μ-loop : tie.MeasureT-loop
-μ-loop slices out₀ marks₀ lacks₀ faulty₀ rows columns groups k₀ out marks lacks faulty k = groups - k
+μ-loop table out₀ marks₀ lacks₀ faulty₀ rows columns groups k₀ out marks lacks faulty k = groups - k
 
 add-groups : tie.Need-add-groups Inv-loop μ-loop
 add-groups c = omega (arith, c .before .before .before .before .pre .1 .room .rect .rowsHigh, c .before .before .before .before .pre .1 .room .rect .columnsHigh)

@@ -3,16 +3,16 @@ use native.Mathlib.Omega.{arith}
 use mathlib.Core.Path.{sym, _∙_}
 use Prim.Native.Nat.{_-_}
 use native.Mathlib.Nat.{mul-le-mul-right}
-use Rattle.repair.proofs.Trying.{same-room}
+use Rattle.mending.proofs.Trying.{same-room}
 use Rattle.repair.proofs.Sweeping.{Swept, swept-start, swept-next, swept-end}
 use Rattle.repair.proofs.reading.read_all.Statement.{statement}
 use Rattle.repair.proofs.reading.read_all.Tie as tie
 
 abbrev Inv-loop : tie.InvT-loop
-Inv-loop slices found out₀ marks₀ lacks₀ faulty₀ rows columns first₀ r₀ out marks lacks faulty first r = Swept rows columns found lacks₀ faulty₀ out marks lacks faulty first r
+Inv-loop table found out₀ marks₀ lacks₀ faulty₀ rows columns first₀ r₀ out marks lacks faulty first r = Swept rows columns found lacks₀ faulty₀ out marks lacks faulty first r
 
 abbrev μ-loop : tie.MeasureT-loop
-μ-loop slices found out₀ marks₀ lacks₀ faulty₀ rows columns first₀ r₀ out marks lacks faulty first r = rows - r
+μ-loop table found out₀ marks₀ lacks₀ faulty₀ rows columns first₀ r₀ out marks lacks faulty first r = rows - r
 
 loop-holds : tie.Need-loop-holds Inv-loop μ-loop
 loop-holds c = swept-start _ _ _ _ _ _ _ (c .before .before .before .before .before .pre .1 .0)

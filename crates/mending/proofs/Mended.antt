@@ -1,0 +1,235 @@
+-- A faulty line is mended: the buffers then hold the store with that line, and what stands beside its row and its column is that of it.
+use mathlib.Core.Path.{_≡_, refl, sym, ap, ap₂, _∙_, subst}
+use mathlib.Core.Logic.{_⊎_, inl, inr}
+use mathlib.Core.Bool.{Bool, true, false}
+use mathlib.Core.List.{List, [], _∷_}
+use Prim.Native.Nat.{ℕ, _+_, _-_, _*_, _/_, _%_, _<_}
+use native.Mathlib.Decide.{ℕ-discrete}
+use native.Mathlib.Omega.{arith}
+use borrow.Author.Tests.{eq-eqb, ne-eqb}
+use lib.ListN.{length, getD, set, length-set}
+use lib.Seq.{getD-set-same, getD-set-other}
+use Rattle.gf2.specs.Word.{Word, _⊕_}
+use Rattle.gf2.proofs.Xor.{xor-assoc, xor-self, length-xor-same}
+use Rattle.gf2.proofs.Crc.{zeros-xor}
+use Rattle.linecode.specs.Places.{linePlaces, places, lineOf}
+use Rattle.scheme.specs.Layer.{Cell}
+use Rattle.scheme.specs.Visit.{State, cellAt, lineAt, isFaulty, faultyOf}
+use Rattle.scheme.specs.Demand3.{_∈_}
+use Rattle.scheme.proofs.Lists.{selects}
+use Rattle.rectangle.specs.Store.{bytesAt, putBytes}
+use Rattle.rectangle.proofs.Groups.{row-below, column-below}
+use Rattle.rectangle.proofs.Spare.{places-lineOf}
+use Rattle.mending.specs.Lent.{Holding, Room, Carried, Some, Beside, groupOf, membersOf, added}
+use Rattle.mending.proofs.Numbers.{members-rising, home-row, home-column, homes}
+use Rattle.mending.proofs.Mending.{one-if, beside-elsewhere, beside-here}
+use Rattle.mending.proofs.Held.{held-count, held-mark, held-bytes, held-put}
+use Rattle.mending.proofs.Added.{added-length, added-same, added-other}
+
+-- a list with a member is not empty
+some-there : (n : ℕ) (l : List ℕ) → n ∈ l → 0 < length l
+some-there n [] i = absurd i
+some-there n (m ∷ l) i = omega arith
+
+module _ (rows columns : ℕ) (out marks lacks faulty : List ℕ) (room : Room rows columns out marks lacks faulty) (n : ℕ)
+    (inside : n < rows * columns) where
+  some-columns : 0 < columns
+  some-columns = omega (arith, room .rect .columnsLow)
+
+  pub row-listed : n / columns < rows
+  row-listed = row-below rows columns some-columns n inside
+
+  pub column-listed : n % columns < columns
+  column-listed = column-below rows columns some-columns n
+
+  -- its two groups have a faulty line
+  module _ (held : Some rows columns out marks lacks faulty) (bad : getD marks n 0 ≡ 4) where
+    counted : (k : ℕ) → k < rows + columns → n ∈ membersOf rows columns k → 0 < getD faulty k 0
+    counted k h i =
+        let s = held .1 in
+        let e : isFaulty (cellAt s n) ≡ true = eq-eqb (cellAt s n .mark) 4 (sym (held-mark out marks s (held .2 .held) n) ∙ bad) in
+        omega (
+          arith,
+          held .2 .beside k h .number,
+          some-there n (faultyOf s (membersOf rows columns k)) (selects (λ m. isFaulty (cellAt s m)) (membersOf rows columns k) n i e),
+        )
+
+    pub row-counted : 0 < getD faulty (n / columns) 0
+    row-counted = counted (n / columns) (omega (arith, row-listed)) (home-row rows columns some-columns n inside)
+
+    pub column-counted : 0 < getD faulty (rows + n % columns) 0
+    column-counted = counted (rows + n % columns) (omega (arith, column-listed)) (home-column rows columns some-columns n inside)
+
+  module _ (parity : ℕ → Word) (s : State) (c : Carried rows columns parity out marks lacks faulty s) (bad : getD marks n 0 ≡ 4)
+      (w : Word) (mark : ℕ) (long : length w ≡ linePlaces) (low : mark < 4) (old line change : List ℕ) (old-is : old ≡ bytesAt out n)
+      (line-is : line ≡ lineOf w) (change-is : change ≡ lineOf (places old ⊕ places line)) where
+    cell : Cell
+    cell = record { line = w; mark = mark }
+
+    t : State
+    t = set s n cell
+
+    below : n < length s
+    below = omega (arith, held-count out marks s (c .held), room .rect .markBytes)
+
+    own : length (lineAt s n) ≡ linePlaces
+    own = c .held .wide n below
+
+    here : cellAt t n ≡ cell
+    unfolding t
+    here = getD-set-same s n cell (record { line = []; mark = 0 }) below
+
+    others : (m : ℕ) → (m ≡ n → ⊥) → cellAt t m ≡ cellAt s m
+    unfolding t
+    others m d = getD-set-other s n m cell (record { line = []; mark = 0 }) d
+
+    delta : Word
+    delta = lineAt s n ⊕ w
+
+    wide : length delta ≡ linePlaces
+    unfolding delta
+    wide = length-xor-same (lineAt s n) w (own ∙ sym long) ∙ own
+
+    delta-is : places change ≡ delta
+    unfolding delta
+    delta-is =
+        ap places
+        (change-is
+        ∙ ap₂ (λ (a b : Word). lineOf (a ⊕ b))
+        (ap places (old-is ∙ held-bytes out marks s (c .held) n below) ∙ places-lineOf (lineAt s n) own)
+        (ap places line-is ∙ places-lineOf w long))
+        ∙ places-lineOf (lineAt s n ⊕ w) wide
+
+    changed : lineAt t n ≡ lineAt s n ⊕ delta
+    unfolding delta cell
+    changed =
+        ap (λ (x : Cell). x .line) here
+        ∙ sym (zeros-xor (length (lineAt s n)) w (long ∙ sym own))
+        ∙ ap (λ (x : Word). x ⊕ w) (sym (xor-self (lineAt s n)))
+        ∙ xor-assoc (lineAt s n) (lineAt s n) w
+
+    was : isFaulty (cellAt s n) ≡ true
+    was = eq-eqb (cellAt s n .mark) 4 (sym (held-mark out marks s (c .held) n) ∙ bad)
+
+    is : isFaulty (cellAt t n) ≡ false
+    unfolding cell
+    is = ap isFaulty here ∙ ne-eqb mark 4 (λ (e : mark ≡ 4). omega arith)
+
+    one-less : (a b : ℕ) → 0 < b → a ≡ b - 1 → a + one-if (isFaulty (cellAt s n)) ≡ b + one-if (isFaulty (cellAt t n))
+    one-less a b p e =
+        ap (λ (x : Bool). a + one-if x) was ∙ less ∙ sym (ap (λ (x : Bool). b + one-if x) is)
+      where
+        less : a + 1 ≡ b + 0
+        less = omega arith
+
+    -- a group that holds the line, with the change added and one taken off its number
+    touched : (k : ℕ) → k < rows + columns → n ∈ membersOf rows columns k → (x : List ℕ) (a : ℕ)
+        → x ≡ lineOf (places (bytesAt lacks k) ⊕ places change) → a ≡ getD faulty k 0 - 1
+        → Beside (groupOf rows columns parity k) t x a
+    touched k h i x a e f =
+        beside-here s t n others delta wide changed (groupOf rows columns parity k) (bytesAt lacks k) x (getD faulty k 0) a
+        (members-rising rows columns some-columns k h) i (c .beside k h)
+        (e ∙ ap (λ (v : Word). lineOf (places (bytesAt lacks k) ⊕ v)) delta-is)
+        (one-less a (getD faulty k 0) (counted (parity, s, c) bad k h i) f)
+
+    R : ℕ
+    R = n / columns
+
+    C : ℕ
+    C = rows + n % columns
+
+    apart : R ≡ C → ⊥
+    unfolding R C
+    apart e = omega (arith, row-listed)
+
+    lacks₁ : List ℕ
+    lacks₁ = added lacks R change
+
+    faulty₁ : List ℕ
+    faulty₁ = set faulty R (getD faulty R 0 - 1)
+
+    pub mended : (after afterMarks : List ℕ) → after ≡ putBytes out n line → afterMarks ≡ set marks n mark
+        → Carried rows columns parity after afterMarks (added (added lacks (n / columns) change) (rows + n % columns) change)
+        (set (set faulty (n / columns) (getD faulty (n / columns) 0 - 1)) (rows + n % columns)
+        (getD (set faulty (n / columns) (getD faulty (n / columns) 0 - 1)) (rows + n % columns) 0 - 1))
+        (set s n (record { line = w; mark = mark }))
+    unfolding R C lacks₁ faulty₁ t cell
+    mended after afterMarks e f =
+        record {
+          held =
+              subst (λ (b : List ℕ). Holding-of b afterMarks) (sym (e ∙ ap (putBytes out n) line-is))
+              (subst (λ (b : List ℕ). Holding-of (putBytes out n (lineOf w)) b) (sym f) (held-put out marks s (c .held) n w mark below long));
+          beside = each;
+        }
+      where
+        Holding-of : List ℕ → List ℕ → Type 0
+        Holding-of a b = Holding a b t
+
+        few-rows : R < 1024
+        few-rows = omega (arith, row-listed, room .rect .rowsHigh)
+
+        few : C < 1024
+        few = omega (arith, column-listed, room .rect .rowsHigh, room .rect .columnsHigh)
+
+        mid : length lacks₁ ≡ 71680
+        mid = added-length lacks (room .lackBytes) R few-rows change
+
+        count-mid : length faulty₁ ≡ 1024
+        count-mid = length-set faulty R (getD faulty R 0 - 1) ∙ room .counts
+
+        each : (k : ℕ) → k < rows + columns
+            → Beside (groupOf rows columns parity k) t (bytesAt (added lacks₁ C change) k) (getD (set faulty₁ C (getD faulty₁ C 0 - 1)) k 0)
+        each k h = go (ℕ-discrete k C) (ℕ-discrete k R)
+          where
+            small : k < 1024
+            small = omega (arith, room .rect .rowsHigh, room .rect .columnsHigh)
+
+            go : Dec (k ≡ C) → Dec (k ≡ R)
+                → Beside (groupOf rows columns parity k) t (bytesAt (added lacks₁ C change) k) (getD (set faulty₁ C (getD faulty₁ C 0 - 1)) k 0)
+            go (yes p) q =
+                subst
+                (λ (j : ℕ). Beside (groupOf rows columns parity j) t (bytesAt (added lacks₁ C change) j) (getD (set faulty₁ C (getD faulty₁ C 0 - 1)) j 0))
+                (sym p)
+                (touched C (omega (arith, column-listed)) (home-column rows columns some-columns n inside) _ _
+                (added-same lacks₁ mid C few change
+                ∙ ap (λ (l : List ℕ). lineOf (places l ⊕ places change))
+                (added-other lacks (room .lackBytes) R few-rows change C few (λ (x : C ≡ R). apart (sym x))))
+                (getD-set-same faulty₁ C (getD faulty₁ C 0 - 1) 0 (omega (arith, count-mid))
+                ∙ ap (λ (x : ℕ). x - 1) (getD-set-other faulty R C (getD faulty R 0 - 1) 0 (λ (x : C ≡ R). apart (sym x)))))
+            go (no d) (yes q) =
+                subst
+                (λ (j : ℕ). Beside (groupOf rows columns parity j) t (bytesAt (added lacks₁ C change) j) (getD (set faulty₁ C (getD faulty₁ C 0 - 1)) j 0))
+                (sym q)
+                (touched R (omega (arith, row-listed)) (home-row rows columns some-columns n inside) _ _
+                (added-other lacks₁ mid C few change R few-rows apart ∙ added-same lacks (room .lackBytes) R few-rows change)
+                (getD-set-other faulty₁ C R (getD faulty₁ C 0 - 1) 0 apart
+                ∙ getD-set-same faulty R (getD faulty R 0 - 1) 0 (omega (arith, room .counts))))
+            go (no d) (no q) =
+                beside-elsewhere s t n others (groupOf rows columns parity k) _ _ absent
+                (subst (λ (l : List ℕ). Beside (groupOf rows columns parity k) s l (getD (set faulty₁ C (getD faulty₁ C 0 - 1)) k 0))
+                (sym (added-other lacks₁ mid C few change k small d ∙ added-other lacks (room .lackBytes) R few-rows change k small q))
+                (subst (λ (a : ℕ). Beside (groupOf rows columns parity k) s (bytesAt lacks k) a)
+                (sym (getD-set-other faulty₁ C k (getD faulty₁ C 0 - 1) 0 d ∙ getD-set-other faulty R k (getD faulty R 0 - 1) 0 q))
+                (c .beside k h)))
+              where
+                absent : n ∈ membersOf rows columns k → ⊥
+                absent i = either (homes rows columns some-columns n k h i)
+                  where
+                    either : (k ≡ n / columns) ⊎ (k ≡ rows + n % columns) → ⊥
+                    either (inl x) = q x
+                    either (inr x) = d x
+
+    -- the same with the buffers under other names
+    pub mended-as : (after mid last : List ℕ) → after ≡ putBytes out n line → mid ≡ added lacks (n / columns) change
+        → last ≡ added mid (rows + n % columns) change
+        → Carried rows columns parity after (set marks n mark) last
+        (set (set faulty (n / columns) (getD faulty (n / columns) 0 - 1)) (rows + n % columns)
+        (getD (set faulty (n / columns) (getD faulty (n / columns) 0 - 1)) (rows + n % columns) 0 - 1))
+        (set s n (record { line = w; mark = mark }))
+    mended-as after mid last e f g =
+        subst
+        (λ (x : List ℕ). Carried rows columns parity after (set marks n mark) x
+        (set (set faulty (n / columns) (getD faulty (n / columns) 0 - 1)) (rows + n % columns)
+        (getD (set faulty (n / columns) (getD faulty (n / columns) 0 - 1)) (rows + n % columns) 0 - 1))
+        (set s n (record { line = w; mark = mark })))
+        (sym (g ∙ ap (λ (x : List ℕ). added x (rows + n % columns) change) f)) (mended after (set marks n mark) e refl)
