@@ -93,7 +93,7 @@ pub fn repair(
         (record { answer = r .answer; passes = r .passes; lines = now (out .exit); marks = now (marks .exit) })
         (repairStore rows columns (now (lines .entry)) (now («row_table» .entry)) (now («column_table» .entry)) (now (out .entry)) (now (marks .entry))) ⌝ }
 {
-    let table = sweep::table();
+    let table = sweep::table::lent();
     let turned_back = refusal(
         &table,
         rows,

@@ -7,11 +7,11 @@ use Rattle.repair.proofs.Handing.{zero-bytes-long, zero-counts-long, st
 use Rattle.repair.proofs.repair.Statement.{statement}
 use Rattle.repair.proofs.repair.Tie as tie
 
-table-requires : tie.Need-table-requires
-table-requires c κs = search needs
+lent-requires : tie.Need-lent-requires
+lent-requires c κs = search needs
 
 refusal-requires : tie.Need-refusal-requires
-refusal-requires c κs = c .before .before .before .table .ensures
+refusal-requires c κs = c .before .before .before .lent .ensures
 
 same-length : tie.Need-same-length
 same-length c = search needs
@@ -44,7 +44,7 @@ slice-aggregate-read-all-2 c = search needs
 
 read-all-requires : tie.Need-read-all-requires
 read-all-requires c κs =
-    (c .before .before .before .before .before .before .before .before .before .before .before .before .before .before .before .before .table .ensures, (room-for _ _ _ _ _ _ _ _ (repair-passes _ _ _ _ _ _ _ (sym (c .before .before .before .before .before .before .before .before .before .before .before .before .refusal .ensures) ∙ c .before .before .before .before .before .before .before .before .before .before .before .if1 .left) .rect) refl refl (c .before .before .before .before .before .before .start-columns .kept .1 .1 .1 .0 ∙ c .before .before .before .before .before .before .before .before .before .start-rows .kept .1 .1 .0 ∙ zero-bytes-long) zero-counts-long, (repair-passes _ _ _ _ _ _ _ (sym (c .before .before .before .before .before .before .before .before .before .before .before .before .refusal .ensures) ∙ c .before .before .before .before .before .before .before .before .before .before .before .if1 .left) .sizes .lineBytes, (parityOf _ _ _, started _ _ _ _ _ _ (repair-passes _ _ _ _ _ _ _ (sym (c .before .before .before .before .before .before .before .before .before .before .before .before .refusal .ensures) ∙ c .before .before .before .before .before .before .before .before .before .before .before .if1 .left) .rect .rowsHigh) (repair-passes _ _ _ _ _ _ _ (sym (c .before .before .before .before .before .before .before .before .before .before .before .before .refusal .ensures) ∙ c .before .before .before .before .before .before .before .before .before .before .before .if1 .left) .rect .columnsHigh) (repair-passes _ _ _ _ _ _ _ (sym (c .before .before .before .before .before .before .before .before .before .before .before .before .refusal .ensures) ∙ c .before .before .before .before .before .before .before .before .before .before .before .if1 .left) .sizes .rowBytes) (repair-passes _ _ _ _ _ _ _ (sym (c .before .before .before .before .before .before .before .before .before .before .before .before .refusal .ensures) ∙ c .before .before .before .before .before .before .before .before .before .before .before .if1 .left) .sizes .columnBytes) (c .before .before .before .before .before .before .before .before .before .start-rows .ensures) (c .before .before .before .before .before .before .start-columns .ensures .0) (c .before .before .before .before .before .before .start-columns .ensures .1)))))
+    (c .before .before .before .before .before .before .before .before .before .before .before .before .before .before .before .before .lent .ensures, (room-for _ _ _ _ _ _ _ _ (repair-passes _ _ _ _ _ _ _ (sym (c .before .before .before .before .before .before .before .before .before .before .before .before .refusal .ensures) ∙ c .before .before .before .before .before .before .before .before .before .before .before .if1 .left) .rect) refl refl (c .before .before .before .before .before .before .start-columns .kept .1 .1 .1 .0 ∙ c .before .before .before .before .before .before .before .before .before .start-rows .kept .1 .1 .0 ∙ zero-bytes-long) zero-counts-long, (repair-passes _ _ _ _ _ _ _ (sym (c .before .before .before .before .before .before .before .before .before .before .before .before .refusal .ensures) ∙ c .before .before .before .before .before .before .before .before .before .before .before .if1 .left) .sizes .lineBytes, (parityOf _ _ _, started _ _ _ _ _ _ (repair-passes _ _ _ _ _ _ _ (sym (c .before .before .before .before .before .before .before .before .before .before .before .before .refusal .ensures) ∙ c .before .before .before .before .before .before .before .before .before .before .before .if1 .left) .rect .rowsHigh) (repair-passes _ _ _ _ _ _ _ (sym (c .before .before .before .before .before .before .before .before .before .before .before .before .refusal .ensures) ∙ c .before .before .before .before .before .before .before .before .before .before .before .if1 .left) .rect .columnsHigh) (repair-passes _ _ _ _ _ _ _ (sym (c .before .before .before .before .before .before .before .before .before .before .before .before .refusal .ensures) ∙ c .before .before .before .before .before .before .before .before .before .before .before .if1 .left) .sizes .rowBytes) (repair-passes _ _ _ _ _ _ _ (sym (c .before .before .before .before .before .before .before .before .before .before .before .before .refusal .ensures) ∙ c .before .before .before .before .before .before .before .before .before .before .before .if1 .left) .sizes .columnBytes) (c .before .before .before .before .before .before .before .before .before .start-rows .ensures) (c .before .before .before .before .before .before .start-columns .ensures .0) (c .before .before .before .before .before .before .start-columns .ensures .1)))))
 
 slice-aggregate-run-passes : tie.Need-slice-aggregate-run-passes
 slice-aggregate-run-passes c = search needs
@@ -54,7 +54,7 @@ slice-aggregate-run-passes-2 c = search needs
 
 run-passes-requires : tie.Need-run-passes-requires
 run-passes-requires c κs =
-    (c .before .before .before .before .before .before .before .before .before .before .before .before .before .before .before .before .before .before .before .before .before .before .before .before .before .before .before .before .table .ensures, record { room = room-for _ _ _ _ _ _ _ _ (repair-passes _ _ _ _ _ _ _ (sym (c .before .before .before .before .before .before .before .before .before .before .before .before .before .before .before .before .before .before .before .before .before .before .before .before .refusal .ensures) ∙ c .before .before .before .before .before .before .before .before .before .before .before .before .before .before .before .before .before .before .before .before .before .before .before .if1 .left) .rect) (c .before .before .before .before .before .before .before .before .before .before .before .read-all .kept .1 .1 .0) (c .before .before .before .before .before .before .before .before .before .before .before .read-all .kept .1 .1 .1 .0) (c .before .before .before .before .before .before .before .before .before .before .before .read-all .kept .1 .1 .1 .1 .0 ∙ c .before .before .before .before .before .before .before .before .before .before .before .before .before .before .before .before .before .before .start-columns .kept .1 .1 .1 .0 ∙ c .before .before .before .before .before .before .before .before .before .before .before .before .before .before .before .before .before .before .before .before .before .start-rows .kept .1 .1 .0 ∙ zero-bytes-long) (c .before .before .before .before .before .before .before .before .before .before .before .read-all .kept .1 .1 .1 .1 .1 .0 ∙ zero-counts-long); held = (parityOf _ _ _, _, c .before .before .before .before .before .before .before .before .before .before .before .read-all .ensures _ (started _ _ _ _ _ _ (repair-passes _ _ _ _ _ _ _ (sym (c .before .before .before .before .before .before .before .before .before .before .before .before .before .before .before .before .before .before .before .before .before .before .before .before .refusal .ensures) ∙ c .before .before .before .before .before .before .before .before .before .before .before .before .before .before .before .before .before .before .before .before .before .before .before .if1 .left) .rect .rowsHigh) (repair-passes _ _ _ _ _ _ _ (sym (c .before .before .before .before .before .before .before .before .before .before .before .before .before .before .before .before .before .before .before .before .before .before .before .before .refusal .ensures) ∙ c .before .before .before .before .before .before .before .before .before .before .before .before .before .before .before .before .before .before .before .before .before .before .before .if1 .left) .rect .columnsHigh) (repair-passes _ _ _ _ _ _ _ (sym (c .before .before .before .before .before .before .before .before .before .before .before .before .before .before .before .before .before .before .before .before .before .before .before .before .refusal .ensures) ∙ c .before .before .before .before .before .before .before .before .before .before .before .before .before .before .before .before .before .before .before .before .before .before .before .if1 .left) .sizes .rowBytes) (repair-passes _ _ _ _ _ _ _ (sym (c .before .before .before .before .before .before .before .before .before .before .before .before .before .before .before .before .before .before .before .before .before .before .before .before .refusal .ensures) ∙ c .before .before .before .before .before .before .before .before .before .before .before .before .before .before .before .before .before .before .before .before .before .before .before .if1 .left) .sizes .columnBytes) (c .before .before .before .before .before .before .before .before .before .before .before .before .before .before .before .before .before .before .before .before .before .start-rows .ensures) (c .before .before .before .before .before .before .before .before .before .before .before .before .before .before .before .before .before .before .start-columns .ensures .0) (c .before .before .before .before .before .before .before .before .before .before .before .before .before .before .before .before .before .before .start-columns .ensures .1))) })
+    (c .before .before .before .before .before .before .before .before .before .before .before .before .before .before .before .before .before .before .before .before .before .before .before .before .before .before .before .before .lent .ensures, record { room = room-for _ _ _ _ _ _ _ _ (repair-passes _ _ _ _ _ _ _ (sym (c .before .before .before .before .before .before .before .before .before .before .before .before .before .before .before .before .before .before .before .before .before .before .before .before .refusal .ensures) ∙ c .before .before .before .before .before .before .before .before .before .before .before .before .before .before .before .before .before .before .before .before .before .before .before .if1 .left) .rect) (c .before .before .before .before .before .before .before .before .before .before .before .read-all .kept .1 .1 .0) (c .before .before .before .before .before .before .before .before .before .before .before .read-all .kept .1 .1 .1 .0) (c .before .before .before .before .before .before .before .before .before .before .before .read-all .kept .1 .1 .1 .1 .0 ∙ c .before .before .before .before .before .before .before .before .before .before .before .before .before .before .before .before .before .before .start-columns .kept .1 .1 .1 .0 ∙ c .before .before .before .before .before .before .before .before .before .before .before .before .before .before .before .before .before .before .before .before .before .start-rows .kept .1 .1 .0 ∙ zero-bytes-long) (c .before .before .before .before .before .before .before .before .before .before .before .read-all .kept .1 .1 .1 .1 .1 .0 ∙ zero-counts-long); held = (parityOf _ _ _, _, c .before .before .before .before .before .before .before .before .before .before .before .read-all .ensures _ (started _ _ _ _ _ _ (repair-passes _ _ _ _ _ _ _ (sym (c .before .before .before .before .before .before .before .before .before .before .before .before .before .before .before .before .before .before .before .before .before .before .before .before .refusal .ensures) ∙ c .before .before .before .before .before .before .before .before .before .before .before .before .before .before .before .before .before .before .before .before .before .before .before .if1 .left) .rect .rowsHigh) (repair-passes _ _ _ _ _ _ _ (sym (c .before .before .before .before .before .before .before .before .before .before .before .before .before .before .before .before .before .before .before .before .before .before .before .before .refusal .ensures) ∙ c .before .before .before .before .before .before .before .before .before .before .before .before .before .before .before .before .before .before .before .before .before .before .before .if1 .left) .rect .columnsHigh) (repair-passes _ _ _ _ _ _ _ (sym (c .before .before .before .before .before .before .before .before .before .before .before .before .before .before .before .before .before .before .before .before .before .before .before .before .refusal .ensures) ∙ c .before .before .before .before .before .before .before .before .before .before .before .before .before .before .before .before .before .before .before .before .before .before .before .if1 .left) .sizes .rowBytes) (repair-passes _ _ _ _ _ _ _ (sym (c .before .before .before .before .before .before .before .before .before .before .before .before .before .before .before .before .before .before .before .before .before .before .before .before .refusal .ensures) ∙ c .before .before .before .before .before .before .before .before .before .before .before .before .before .before .before .before .before .before .before .before .before .before .before .if1 .left) .sizes .columnBytes) (c .before .before .before .before .before .before .before .before .before .before .before .before .before .before .before .before .before .before .before .before .before .start-rows .ensures) (c .before .before .before .before .before .before .before .before .before .before .before .before .before .before .before .before .before .before .start-columns .ensures .0) (c .before .before .before .before .before .before .before .before .before .before .before .before .before .before .before .before .before .before .start-columns .ensures .1))) })
 
 slice-aggregate-answer-after : tie.Need-slice-aggregate-answer-after
 slice-aggregate-answer-after c = search needs
@@ -81,7 +81,7 @@ pub repair-spec : {M : Type 1} → statement M
 repair-spec =
     tie.close
     (tie.spec
-    table-requires
+    lent-requires
     refusal-requires
     same-length
     same-length-2
