@@ -11,7 +11,6 @@ ghost use Rattle.linecode.specs.Code.{dataOf, codeword, accepted, isCorrect};
 ghost use Rattle.linecode.specs.Reading.{readAlone};
 ghost use Rattle.linecode.specs.Corrector.{afterCorrector};
 ghost use Rattle.linecode.specs.Entry.{written, reading};
-ghost use Rattle.register.specs.Slices.{sliceTable};
 
 // A line with its CRC and its Hamming bits written afresh from its data.
 pub fn rewrite(line: [u8; 70]) -> [u8; 70]
@@ -65,20 +64,6 @@ pub fn read_line(line: [u8; 70]) -> Reading
     ensures { λ r. ⌜ r ≡ reading line ⌝ }
 {
     if crc::agrees(line) {
-        return Reading {
-            line: hamming::append(line),
-            mark: 0,
-        };
-    }
-    read_hurt(line)
-}
-
-// The same with a lent table, for many lines. Public for the crates above, which bind the table; not an entry point.
-pub fn read_by(slices: &[u32; 4096], line: [u8; 70]) -> Reading
-    requires { ⌜ now slices ≡ sliceTable ⌝ }
-    ensures { λ r. ⌜ r ≡ reading line ⌝ }
-{
-    if crc::agrees_by(slices, line) {
         return Reading {
             line: hamming::append(line),
             mark: 0,
