@@ -10,7 +10,7 @@ use Rattle.linecode.proofs.Line.{bytes-is}
 use Rattle.scheme.specs.Layer.{readLine}
 use Rattle.scheme.specs.Visit.{Group, State, lineAt, faultyOf, sum}
 use Rattle.scheme.specs.Repair.{Repaired, readAll, passesFrom, repair, linesOf, marksOf, answer}
-use Rattle.rectangle.specs.Store.{lineLayer, placesAt, bytesAt, linesIn, bufferOf, groups}
+use Rattle.rectangle.specs.Store.{lineLayer, placesAt, bytesAt, linesIn, bufferOf}
 use Rattle.rectangle.specs.Refusals.{repairRefusal}
 use Rattle.rectangle.specs.Repair.{repaired, handedOver, StoreRepaired, repairStore}
 use Rattle.rectangle.proofs.Buffer.{length-placesAt}
