@@ -1,5 +1,5 @@
 -- A line that was read is added to its row's difference, which is carried apart, and to its column's; then a piece of a row, line by line.
-use mathlib.Core.Path.{_≡_, refl, sym, ap, _∙_, subst}
+use mathlib.Core.Path.{_≡_, sym, ap, _∙_, subst}
 use mathlib.Core.Logic.{_⊎_, inl, inr}
 use mathlib.Core.Bool.{Bool, true, false, cond}
 use mathlib.Core.List.{List, [], _∷_}
@@ -22,12 +22,12 @@ use Rattle.rectangle.proofs.Buffer.{length-placesAt}
 use Rattle.rectangle.proofs.Groups.{row-number, column-number, line-inside}
 use Rattle.rectangle.proofs.Spare.{places-lineOf}
 use Rattle.rectangle.proofs.Stride.{in-stride}
-use Rattle.mending.specs.Lent.{Room, Beside, membersOf, groupOf}
+use Rattle.mending.specs.Lent.{Beside, membersOf, groupOf}
 use Rattle.mending.proofs.Numbers.{row-of, column-of, members-rising, homes, members-few}
 use Rattle.mending.proofs.Mending.{one-if, beside-elsewhere, beside-here}
 use Rattle.mending.proofs.Added.{put-same, put-other}
 use Rattle.mending.proofs.Trying.{read-long}
-use Rattle.repair.specs.Lent.{readFirst, RowOpen, Piece}
+use Rattle.repair.specs.Lent.{readFirst, RowOpen, Piece, SomePiece}
 use Rattle.repair.proofs.FirstReading.{length-readFirst, one-more, begun-line, begun-mark}
 
 -- ---- numbers of faulty lines are small
@@ -129,9 +129,10 @@ module _ (rows columns : ℕ) (parity : ℕ → Word) (found lacks faulty : List
       count-few rows columns parity _ (bytesAt lacks (rows + c)) (getD faulty (rows + c) 0) (rows + c) rowsHigh columnsHigh (omega arith)
       (o .others (rows + c) (omega arith) (λ (e : rows + c ≡ r). omega arith))
 
-  -- the number of a group that holds the line
+  -- the line as it was read, with its mark
   module _ (line : List ℕ) (mark : ℕ) (line-is : line ≡ lineOf (aloneAt found n .line)) (mark-is : mark ≡ aloneAt found n .mark) (f : Bool)
       (f-is : eqb mark 4 ≡ f) where
+    -- the number of a group that holds it
     grown : (a b : ℕ) → a ≡ b + one-if f → a + one-if (isFaulty (cellAt s n)) ≡ b + one-if (isFaulty (cellAt t n))
     unfolding none cell
     grown a b q =
@@ -203,7 +204,7 @@ pub record Adding (rows : ℕ) (out marks lacks₀ faulty₀ : List ℕ) (n c co
       → Piece rows columns parity found out marks lacks₀ faulty₀ r n c count difference₀ hurt₀
       → RowOpen rows columns parity found lacks faulty r (n + i) difference hurt
 
--- where line n + i stands, and the numbers beside it
+-- line n, of column k - rows: it stands inside the buffers, and the numbers beside it are small
 pub record Place (rows : ℕ) (out marks faulty : List ℕ) (hurt n k : ℕ) : Type 0 where
   pub line : suc n * 70 ≤ length out
   pub mark : n < length marks
@@ -213,7 +214,7 @@ pub record Place (rows : ℕ) (out marks faulty : List ℕ) (hurt n k : ℕ) : T
   pub columnFew : getD faulty k 0 ≤ 512
 
 module _ (rows : ℕ) (out marks lacks₀ faulty₀ : List ℕ) (n c count : ℕ) (difference₀ : List ℕ) (hurt₀ : ℕ) where
-  pub adding-start : ((columns : ℕ) × (parity : (ℕ → Word)) × (found : List ℕ) × (r : ℕ) × Piece rows columns parity found out marks lacks₀ faulty₀ r n c count difference₀ hurt₀)
+  pub adding-start : SomePiece rows out marks lacks₀ faulty₀ n c count difference₀ hurt₀
       → Adding rows out marks lacks₀ faulty₀ n c count difference₀ hurt₀ lacks₀ faulty₀ difference₀ hurt₀ 0
   adding-start some =
       record {
@@ -242,7 +243,7 @@ module _ (rows : ℕ) (out marks lacks₀ faulty₀ : List ℕ) (n c count : ℕ
           → Piece rows columns parity found out marks lacks₀ faulty₀ r n c count difference₀ hurt₀ → n + i ≡ r * columns + (c + i)
       number columns parity found r p = omega (arith, p .here)
 
-      pub adding-place : ((columns : ℕ) × (parity : (ℕ → Word)) × (found : List ℕ) × (r : ℕ) × Piece rows columns parity found out marks lacks₀ faulty₀ r n c count difference₀ hurt₀)
+      pub adding-place : SomePiece rows out marks lacks₀ faulty₀ n c count difference₀ hurt₀
           → Place rows out marks faulty hurt (n + i) (rows + (c + i))
       adding-place some =
           record {

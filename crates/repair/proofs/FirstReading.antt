@@ -7,9 +7,8 @@ use native.Mathlib.Omega.{arith}
 use lib.ListN.{length, take, drop, getD, set, length-map, length-set, length-drop, drop-of-length-le, List·getD-append, List·getD-map}
 use lib.Seq.{drop-cons, drop-at, set-at, append-snoc, take-append-le, drop-append-le}
 use Rattle.gf2.specs.Word.{Word}
-use Rattle.linecode.specs.Places.{linePlaces, lineBytes, places, lineOf}
+use Rattle.linecode.specs.Places.{linePlaces, lineBytes, lineOf}
 use Rattle.linecode.specs.Code.{upFrom}
-use Rattle.linecode.specs.Reading.{readAlone}
 use Rattle.linecode.specs.Entry.{reading}
 use Rattle.linecode.specs.declared.alone.Reading.{Reading}
 use Rattle.linecode.proofs.Line.{bytes-is}

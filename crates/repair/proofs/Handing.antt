@@ -9,14 +9,14 @@ use Rattle.linecode.specs.Places.{linePlaces, lineOf}
 use Rattle.linecode.proofs.Line.{bytes-is}
 use Rattle.scheme.specs.Layer.{readLine}
 use Rattle.scheme.specs.Visit.{Group, State, lineAt, faultyOf, sum}
-use Rattle.scheme.specs.Repair.{readAll, passesFrom, repair, linesOf, marksOf, answer}
-use Rattle.rectangle.specs.Store.{lineLayer, placesAt, bytesAt, linesIn, bufferOf, groups}
+use Rattle.scheme.specs.Repair.{Repaired, readAll, passesFrom, repair, linesOf, marksOf, answer}
+use Rattle.rectangle.specs.Store.{lineLayer, placesAt, bytesAt, linesIn, bufferOf}
 use Rattle.rectangle.specs.Refusals.{repairRefusal}
 use Rattle.rectangle.specs.Repair.{repaired, handedOver, StoreRepaired, repairStore}
 use Rattle.rectangle.proofs.Buffer.{length-placesAt}
 use Rattle.rectangle.proofs.Runs.{repair-runs, repair-refused}
 use Rattle.mending.specs.Lent.{Beside, Tracked, Carried, Rectangular, Room, membersOf, groupOf}
-use Rattle.repair.specs.Lent.{RanPasses, parityOf, allGroups}
+use Rattle.repair.specs.Lent.{RanPasses, Finished, parityOf, allGroups}
 use Rattle.mending.proofs.Numbers.{by-number}
 use Rattle.mending.proofs.Held.{held-count}
 use Rattle.repair.proofs.Groups.{row-parity, column-parity, all-groups}
@@ -80,26 +80,24 @@ room-for rows columns out marks out′ marks′ lacks faulty r e f g h =
       counts = h;
     }
 
--- ---- what repair hands over
-pub handed : (rows columns : ℕ) (lines rt ct out₀ marks₀ out₁ marks₁ lacks₁ faulty₁ out marks lacks faulty : List ℕ) (answered passes : ℕ)
-    → repairRefusal rows columns lines rt ct out₀ marks₀ ≡ 0
-    → Carried rows columns (parityOf rows rt ct) out₁ marks₁ lacks₁ faulty₁ (readAll (readLine lineLayer) 0 (linesIn (rows * columns) lines))
-    → RanPasses rows columns out₁ marks₁ lacks₁ faulty₁ out marks lacks faulty passes → length marks ≡ rows * columns
+-- ---- what the steps leave
+pub finished : (rows columns : ℕ) (parity : ℕ → Word) (found out₁ marks₁ lacks₁ faulty₁ out marks lacks faulty : List ℕ) (answered passed : ℕ)
+    → Carried rows columns parity out₁ marks₁ lacks₁ faulty₁ (readAll (readLine lineLayer) 0 (linesIn (rows * columns) found))
+    → RanPasses rows columns out₁ marks₁ lacks₁ faulty₁ out marks lacks faulty passed → length marks ≡ rows * columns
     → ((parity : ℕ → Word) (s : State) → length s ≡ rows * columns → Tracked rows columns parity lacks faulty s
     → answered ≡ answer (allGroups rows columns parity) s)
-    → _≡_ {A = StoreRepaired} (record { answer = answered; passes = passes; lines = out; marks = marks })
-    (repairStore rows columns lines rt ct out₀ marks₀)
-unfolding repaired handedOver repair
-handed rows columns lines rt ct out₀ marks₀ out₁ marks₁ lacks₁ faulty₁ out marks lacks faulty answered passes e h r m a =
-    assemble (groups rows columns rt ct) (sym (all-groups rows columns rt ct)) answered passes out marks
-    (a parity t (sym (held-count out marks t (last .held)) ∙ m) (last .beside)) (r .passes parity s h) (last .held .lines) (last .held .marked)
-    ∙ sym (repair-runs rows columns lines rt ct out₀ marks₀ 0 e refl)
+    → Finished rows columns parity found out marks answered passed
+finished rows columns parity found out₁ marks₁ lacks₁ faulty₁ out marks lacks faulty answered passed h r m a =
+    record {
+      cells = t;
+      ran = same (passesFrom (readLine lineLayer) (allGroups rows columns parity) s) passed (r .passes parity s h);
+      lines = last .held .lines;
+      marked = last .held .marked;
+      answers = a parity t (sym (held-count out marks t (last .held)) ∙ m) (last .beside);
+    }
   where
-    parity : ℕ → Word
-    parity = parityOf rows rt ct
-
     s : State
-    s = readAll (readLine lineLayer) 0 (linesIn (rows * columns) lines)
+    s = readAll (readLine lineLayer) 0 (linesIn (rows * columns) found)
 
     t : State
     t = passesFrom (readLine lineLayer) (allGroups rows columns parity) s .cells
@@ -107,23 +105,36 @@ handed rows columns lines rt ct out₀ marks₀ out₁ marks₁ lacks₁ faulty�
     last : Carried rows columns parity out marks lacks faulty t
     last = r .cells parity s h
 
-    Hands : List Group → StoreRepaired
-    Hands gs =
+    same : (x : Repaired) (n : ℕ) → n ≡ x .passes → x ≡ record { cells = x .cells; passes = n }
+    same x n e = ap (λ (k : ℕ). record { cells = x .cells; passes = k }) (sym e)
+
+-- ---- what repair hands over
+pub handed : (rows columns : ℕ) (lines rt ct out₀ marks₀ out marks : List ℕ) (answered passed : ℕ)
+    → repairRefusal rows columns lines rt ct out₀ marks₀ ≡ 0 → Finished rows columns (parityOf rows rt ct) lines out marks answered passed
+    → _≡_ {A = StoreRepaired} (record { answer = answered; passes = passed; lines = out; marks = marks })
+    (repairStore rows columns lines rt ct out₀ marks₀)
+unfolding repaired handedOver repair
+handed rows columns lines rt ct out₀ marks₀ out marks answered passed e f =
+    all-three answered _ out _ marks _ (f .answers) (f .lines) (f .marked)
+    ∙ ap (Hands (allGroups rows columns (parityOf rows rt ct))) (sym (f .ran))
+    ∙ ap (λ (gs : List Group). Hands gs (passesFrom (readLine lineLayer) gs s)) (all-groups rows columns rt ct)
+    ∙ sym (repair-runs rows columns lines rt ct out₀ marks₀ 0 e refl)
+  where
+    s : State
+    s = readAll (readLine lineLayer) 0 (linesIn (rows * columns) lines)
+
+    Hands : List Group → Repaired → StoreRepaired
+    Hands gs r =
         record {
-          answer = answer gs (passesFrom (readLine lineLayer) gs s .cells);
-          passes = passesFrom (readLine lineLayer) gs s .passes;
-          lines = bufferOf (linesOf (passesFrom (readLine lineLayer) gs s .cells));
-          marks = marksOf (passesFrom (readLine lineLayer) gs s .cells);
+          answer = answer gs (r .cells);
+          passes = r .passes;
+          lines = bufferOf (linesOf (r .cells));
+          marks = marksOf (r .cells);
         }
 
-    assemble : (gs : List Group) → gs ≡ allGroups rows columns parity → (x n : ℕ) (o v : List ℕ) → x ≡ answer (allGroups rows columns parity) t
-        → n ≡ passesFrom (readLine lineLayer) (allGroups rows columns parity) s .passes → o ≡ bufferOf (linesOf t) → v ≡ marksOf t
-        → _≡_ {A = StoreRepaired} (record { answer = x; passes = n; lines = o; marks = v }) (Hands gs)
-    assemble gs q x n o v p u y z = all-four x _ n _ o _ v _ p u y z ∙ ap Hands (sym q)
-      where
-        all-four : (a a′ b b′ : ℕ) (c c′ d d′ : List ℕ) → a ≡ a′ → b ≡ b′ → c ≡ c′ → d ≡ d′
-            → _≡_ {A = StoreRepaired} (record { answer = a; passes = b; lines = c; marks = d }) (record { answer = a′; passes = b′; lines = c′; marks = d′ })
-        all-four a a′ b b′ c c′ d d′ i j k l = cc
+    all-three : (a a′ : ℕ) (c c′ d d′ : List ℕ) → a ≡ a′ → c ≡ c′ → d ≡ d′
+        → _≡_ {A = StoreRepaired} (record { answer = a; passes = passed; lines = c; marks = d }) (record { answer = a′; passes = passed; lines = c′; marks = d′ })
+    all-three a a′ c c′ d d′ i k l = cc
 
 pub refused-whole : (rows columns : ℕ) (lines rt ct out marks : List ℕ) (r : ℕ) → r ≡ repairRefusal rows columns lines rt ct out marks
     → (r ≡ 0 → ⊥) → _≡_ {A = StoreRepaired} (record { answer = r; passes = 0; lines = out; marks = marks })

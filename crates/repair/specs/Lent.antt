@@ -9,8 +9,8 @@ use Rattle.gf2.specs.Word.{Word}
 use Rattle.linecode.specs.Code.{upFrom}
 use Rattle.scheme.specs.Layer.{readLine}
 use Rattle.scheme.specs.Visit.{Group, State}
-use Rattle.scheme.specs.Repair.{passesFrom, linesOf, marksOf}
-use Rattle.rectangle.specs.Store.{lineLayer, placesAt, bytesAt, bufferOf, aloneAt}
+use Rattle.scheme.specs.Repair.{readAll, passesFrom, linesOf, marksOf, answer}
+use Rattle.rectangle.specs.Store.{lineLayer, placesAt, bytesAt, linesIn, bufferOf, aloneAt}
 use Rattle.mending.specs.Lent.{Room, groupOf, Beside, Tracked, Carried, Makes}
 
 -- the parity line of group k: from the row table, then from the column table
@@ -27,6 +27,15 @@ pub record RanPasses (rows columns : ℕ) (out marks lacks faulty out′ marks�
       (λ parity s. passesFrom (readLine lineLayer) (allGroups rows columns parity) s .cells)
   pub passes : (parity : ℕ → Word) (s : State) → Carried rows columns parity out marks lacks faulty s
       → n ≡ passesFrom (readLine lineLayer) (allGroups rows columns parity) s .passes
+
+-- the lines found, read and passed over, stand in the buffers with their marks; the answer and the number of passes are theirs
+pub record Finished (rows columns : ℕ) (parity : ℕ → Word) (found out marks : List ℕ) (answered passed : ℕ) : Type 0 where
+  pub cells : State
+  pub ran : passesFrom (readLine lineLayer) (allGroups rows columns parity) (readAll (readLine lineLayer) 0 (linesIn (rows * columns) found))
+      ≡ record { cells = cells; passes = passed }
+  pub lines : out ≡ bufferOf (linesOf cells)
+  pub marked : marks ≡ marksOf cells
+  pub answers : answered ≡ answer (allGroups rows columns parity) cells
 
 -- the first n lines as each reads alone
 unfoldable pub readFirst : List ℕ → ℕ → State
@@ -52,6 +61,11 @@ pub record Piece (rows columns : ℕ) (parity : ℕ → Word) (found out marks l
   pub inside : c + count ≤ columns
   pub begun : Begun out marks (readFirst found (n + count))
   pub opened : RowOpen rows columns parity found lacks faulty r n difference hurt
+
+-- they are such a piece of some rectangle
+abbrev pub SomePiece : ℕ → List ℕ → List ℕ → List ℕ → List ℕ → ℕ → ℕ → ℕ → List ℕ → ℕ → Type 0
+SomePiece rows out marks lacks faulty n c count difference hurt =
+    (columns : ℕ) × (parity : (ℕ → Word)) × (found : List ℕ) × (r : ℕ) × Piece rows columns parity found out marks lacks faulty r n c count difference hurt
 
 -- n lines are read
 pub record ReadUpTo (rows columns : ℕ) (parity : ℕ → Word) (found out marks lacks faulty : List ℕ) (n : ℕ) : Type 0 where

@@ -4,16 +4,17 @@ mod passes;
 mod reading;
 
 ghost use mathlib.Core.Path.{_≡_};
+ghost use mathlib.Core.List.{[]};
 ghost use Prim.Native.Nat.{ℕ, _+_, _*_, _≤_};
-ghost use lib.ListN.{length};
+ghost use lib.ListN.{length, replicate};
 ghost use Rattle.gf2.specs.Word.{Word};
 ghost use Rattle.scheme.specs.Visit.{State};
 ghost use Rattle.scheme.specs.Repair.{answer};
 ghost use Rattle.rectangle.specs.Refusals.{repairRefusal};
 ghost use Rattle.rectangle.specs.Repair.{StoreRepaired, repairStore};
 ghost use Rattle.sweep.specs.Table.{lineTable};
-ghost use Rattle.mending.specs.Lent.{Tracked};
-ghost use Rattle.repair.specs.Lent.{allGroups};
+ghost use Rattle.mending.specs.Lent.{Rectangular, Tracked};
+ghost use Rattle.repair.specs.Lent.{allGroups, Finished};
 use mending::group;
 use rectangle::sizes;
 
@@ -79,6 +80,29 @@ fn answer_after(rows: usize, columns: usize, lacks: &[u8], faulty: &[u16]) -> u3
     0
 }
 
+// The steps, from differences that are the parity lines on: the first reading, the passes, the answer.
+fn steps(
+    table: &[u64; 4096],
+    found: &[u8],
+    out: &mut [u8],
+    marks: &mut [u8],
+    lacks: &mut [u8],
+    rows: usize,
+    columns: usize,
+) -> Repaired
+    requires table { ⌜ now table ≡ lineTable ⌝ }
+    requires room { ⌜ Rectangular rows columns (now out) (now marks) × (length (now found) ≡ rows * columns * 70) × (length (now lacks) ≡ 71680) ⌝ }
+    requires some { ⌜ ((parity : (ℕ → Word)) × Tracked rows columns parity (now lacks) (replicate 1024 0) []) ⌝ }
+    ensures { λ r. ⌜ ((parity : ℕ → Word) → Tracked rows columns parity (now (lacks .entry)) (replicate 1024 0) []
+        → Finished rows columns parity (now (found .entry)) (now (out .exit)) (now (marks .exit)) (r .answer) (r .passes)) ⌝ }
+{
+    let mut faulty = [0u16; 1024];
+    reading::read_all(table, found, out, marks, lacks, &mut faulty, rows, columns);
+    let passes = passes::run_passes(table, out, marks, lacks, &mut faulty, rows, columns);
+    let answer = answer_after(rows, columns, lacks, &faulty);
+    Repaired { answer, passes }
+}
+
 // Repair: lines and tables are read, the line buffer `out` and the mark buffer are written.
 pub fn repair(
     rows: usize,
@@ -111,20 +135,7 @@ pub fn repair(
         };
     }
     let mut lacks = [0u8; 71680];
-    let mut faulty = [0u16; 1024];
     parity::start_rows(rows, row_table, &mut lacks);
     parity::start_columns(rows, columns, column_table, &mut lacks);
-    reading::read_all(
-        &table,
-        lines,
-        out,
-        marks,
-        &mut lacks,
-        &mut faulty,
-        rows,
-        columns,
-    );
-    let passes = passes::run_passes(&table, out, marks, &mut lacks, &mut faulty, rows, columns);
-    let answer = answer_after(rows, columns, &lacks, &faulty);
-    Repaired { answer, passes }
+    steps(&table, lines, out, marks, &mut lacks, rows, columns)
 }

@@ -10,7 +10,7 @@ ghost use Rattle.scheme.specs.Repair.{readAll};
 ghost use Rattle.rectangle.specs.Store.{lineLayer, linesIn};
 ghost use Rattle.sweep.specs.Table.{lineTable};
 ghost use Rattle.mending.specs.Lent.{Room, Tracked, Carried};
-ghost use Rattle.repair.specs.Lent.{readFirst, Begun, RowOpen, Piece, ReadUpTo, ReadsOn};
+ghost use Rattle.repair.specs.Lent.{readFirst, Begun, RowOpen, Piece, SomePiece, ReadUpTo, ReadsOn};
 use linecode::place;
 use rectangle::lines;
 
@@ -57,7 +57,7 @@ pub fn add_piece(
     count: usize,
     row: OpenRow,
 ) -> OpenRow
-    requires { ⌜ ((columns : ℕ) × (parity : (ℕ → Word)) × (found : List ℕ) × (r : ℕ) × Piece rows columns parity found (now out) (now marks) (now lacks) (now faulty) r n c count (row .difference) (row .faulty)) ⌝ }
+    requires { ⌜ SomePiece rows (now out) (now marks) (now lacks) (now faulty) n c count (row .difference) (row .faulty) ⌝ }
     ensures { λ s. ⌜ ((columns : ℕ) (parity : ℕ → Word) (found : List ℕ) (r : ℕ) → Piece rows columns parity found (now (out .entry)) (now (marks .entry)) (now (lacks .entry)) (now (faulty .entry)) r n c count (row .difference) (row .faulty)
         → RowOpen rows columns parity found (now (lacks .exit)) (now (faulty .exit)) r (n + count) (s .difference) (s .faulty)) ⌝ }
 {
