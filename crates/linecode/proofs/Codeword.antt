@@ -2,21 +2,24 @@
 use mathlib.Core.Path.{_≡_, refl, sym, ap, ap₂, _∙_, subst}
 use mathlib.Core.Bool.{Bool, true, false, _&&_}
 use mathlib.Core.List.{List, [], _∷_, _++_, append-assoc}
-use Prim.Native.Nat.{ℕ, zero, suc, _+_, _-_, _^_, _≤_, _<_}
+use Prim.Native.Nat.{ℕ, zero, suc, _+_, _-_, _/_, _%_, _^_, _≤_, _<_}
 use native.Mathlib.Omega.{arith}
 use lib.Dec.{T, eqb}
 use lib.ListN.{length, take, drop, length-append, length-drop, take-append-drop}
-use lib.Seq.{length-take-le, take-all, take-take, take-at, drop-at}
+use lib.Seq.{length-take-le, take-all, take-take, take-at, drop-at, take-append-add, sets}
 use Rattle.gf2.specs.Word.{Word, digits, number, same}
 use Rattle.gf2.specs.Check.{divisible, crc, columnSum}
 use Rattle.gf2.specs.Generator.{generator}
 use Rattle.gf2.proofs.Digits.{length-digits, number-small, number-lt, digits-number}
 use Rattle.gf2.proofs.Same.{same-refl, same-equal, same-append, same-comm, same-number}
 use Rattle.gf2.proofs.Crc.{length-crc, divisible-crc}
-use Rattle.linecode.specs.Places.{dataPlaces, protectedPlaces, linePlaces, places, lineOf}
+use Rattle.linecode.specs.Places.{dataPlaces, protectedPlaces, linePlaces, bitsOf, places, lineOf}
 use Rattle.linecode.specs.Code.{protected, dataOf, storedCrc, storedHamming, accepted, positions, hamming, withCrc, withHamming, codeword, isCorrect, Correct}
-use Rattle.linecode.proofs.Line.{protected-is, data-is, places-is, protected-lineOf, length-places}
-use Rattle.linecode.proofs.Positions.{hamming-digits, position-sum-lt}
+use Rattle.linecode.proofs.Bytes.{Bytes}
+use Rattle.linecode.proofs.Line.{protected-is, data-is, places-is, dataOf-line, protected-lineOf, length-places}
+use Rattle.linecode.proofs.Positions.{length-positions, hamming-digits, withHamming-digits, position-sum-lt}
+use Rattle.linecode.proofs.Stores.{stored-all}
+use Rattle.linecode.proofs.WordBytes.{sum-take}
 use Rattle.register.proofs.Slicing.{length-generator}
 
 -- ---- the CRC as a number
@@ -158,3 +161,39 @@ crc-agrees l worked stored e f g =
     ap₂ eqb f g
     ∙ same-number (crc generator (dataOf w)) (storedCrc w) (length-crc generator (dataOf w) ∙ sym (length-storedCrc w whole))
     ∙ sym (accepted-crc w whole)
+
+-- ---- the CRC and the sum of positions, both worked out from the data alone, stored after them
+-- bit 31 of a register is past the last position
+without-spare : (d : Word) (r : ℕ) → length d ≡ dataPlaces
+    → columnSum positions (d ++ digits 32 r) ≡ columnSum positions (d ++ digits 31 r)
+without-spare d r e =
+    sym (sum-take protectedPlaces positions (d ++ digits 32 r) (omega (arith, length-positions, protected-is)))
+    ∙ ap (columnSum positions) (ap (λ (n : ℕ). take n (d ++ digits 32 r)) count ∙ take-append-add d (digits 32 r) 31)
+  where
+    count : protectedPlaces ≡ length d + 31
+    count = omega (arith, protected-is, data-is)
+
+pub stored-codeword : (l : List ℕ) (r s : ℕ) → length l ≡ 70 → Bytes l → r ≡ number (crc generator (dataOf (places l)))
+    → s ≡ columnSum positions (bitsOf (take 64 l) ++ digits 32 r)
+    → sets l 64 (r % 256 ∷ r / 256 % 256 ∷ r / 65536 % 256 ∷ r / 16777216 % 256 ∷ s % 256 ∷ s / 256 ∷ [])
+    ≡ lineOf (codeword (dataOf (places l)))
+unfolding codeword withCrc
+stored-codeword l r s whole bytes e f =
+    stored-all l whole bytes r s
+    (subst (λ (n : ℕ). n < 2147483648) (sym e) (crc-number-lt d))
+    (subst (λ (n : ℕ). n < 1024) (sym f) (position-sum-lt (bitsOf (take 64 l) ++ digits 32 r)))
+    ∙ ap₂ (λ (w : Word) (n : ℕ). lineOf (w ++ digits 10 n)) front sum
+    ∙ ap lineOf (sym (withHamming-digits (withCrc d)))
+  where
+    d : Word
+    d = dataOf (places l)
+
+    front : d ++ digits 31 r ≡ d ++ crc generator d
+    front = ap (λ (w : Word). d ++ w) (ap (digits 31) e ∙ crc-digits d)
+
+    sum : s ≡ columnSum positions (d ++ crc generator d)
+    sum =
+        f
+        ∙ ap (λ (w : Word). columnSum positions (w ++ digits 32 r)) (sym (dataOf-line l whole))
+        ∙ without-spare d r (length-dataOf (places l) (length-places l whole))
+        ∙ ap (columnSum positions) front

@@ -6,7 +6,7 @@ use native.Mathlib.Nat.{zero-add, suc-sub-suc, sub-zero}
 use native.Mathlib.Numerals.{add-one}
 use native.Mathlib.Omega.{arith}
 use native.Mathlib.Decide.{decLe}
-use lib.ListN.{length, take, drop, getD, set, replicate, length-append, length-take, length-replicate}
+use lib.ListN.{length, take, drop, getD, set, replicate, length-append, length-take, length-replicate, drop-of-length-le}
 use lib.Seq.{take-all, take-append-le, take-append-add, take-take, take-at, paste, paste-zero, paste-suc}
 use Rattle.linecode.specs.Places.{lineBytes, loaded, bitsOf, places}
 use Rattle.linecode.specs.Code.{dataOf}
@@ -28,12 +28,20 @@ take-replicate zero n h = refl
 take-replicate (suc k) zero h = let z : ⊥ = omega arith in absurd z
 take-replicate (suc k) (suc n) h = ap (λ (l : List ℕ). 0 ∷ l) (take-replicate k n (omega arith))
 
-pub copy-step : (s l : List ℕ) (i : ℕ) → i < 70 → i < length s → l ≡ paste blank 0 s i
-    → set l i (getD s i 0) ≡ paste blank 0 s (i + 1)
-copy-step s l i h k e =
+-- a turn of the loop that copies some bytes over others
+pub copy-step : (d s l : List ℕ) (i : ℕ) → i < length d → i < length s → l ≡ paste d 0 s i
+    → set l i (getD s i 0) ≡ paste d 0 s (i + 1)
+copy-step d s l i h k e =
     ap₂ (λ (m : List ℕ) (j : ℕ). set m j (getD s i 0)) e (sym (zero-add i))
-    ∙ paste-suc blank 0 s i 0 (omega (arith, length-replicate {A = ℕ} 70 0)) k
-    ∙ ap (paste blank 0 s) (sym (add-one i))
+    ∙ paste-suc d 0 s i 0 (omega arith) k
+    ∙ ap (paste d 0 s) (sym (add-one i))
+
+-- as many bytes over as many
+pub copied-over : (d s l : List ℕ) (n i : ℕ) → length d ≡ n → length s ≡ n → i ≤ n → n ≤ i → l ≡ paste d 0 s i → l ≡ s
+copied-over d s l n i e f h k q =
+    q
+    ∙ ap₂ _++_ (take-all i s (omega arith)) (drop-of-length-le d {i = 0 + i} (omega arith))
+    ∙ append-nil s
 
 -- n is the slice's length or 70, whichever is less
 pub copied : (s : List ℕ) (n : ℕ) → n ≡ min (length s) 70 → paste blank 0 s n ≡ loaded s

@@ -24,6 +24,13 @@ store-three l e x y z =
     ∙ ap (λ (t : List ℕ). take 67 l ++ (x ∷ y ∷ z ∷ []) ++ t) (drop-of-length-le l {i = 70} (omega arith))
     ∙ append-nil (take 67 l ++ (x ∷ y ∷ z ∷ []))
 
+-- ten bits of a number as two bytes
+ten-bytes : (s : ℕ) → s < 1024 → bytesOf 2 (digits 10 s) ≡ s % 256 ∷ s / 256 ∷ []
+ten-bytes s h =
+    ap (bytesOf 2) (digits-add 8 2 s)
+    ∙ ap₂ (λ (y z : ℕ). y ∷ z ∷ []) (number-digits 8 s)
+    (number-digits 2 (s / 256) ∙ omega arith)
+
 module _ (l : List ℕ) (whole : length l ≡ 70) (bytes : Bytes l) where
   crcEnd-number : number (crcEnd l) ≡ getD l 67 0 % 128
   unfolding crcEnd
@@ -71,13 +78,7 @@ module _ (l : List ℕ) (whole : length l ≡ 70) (bytes : Bytes l) where
   stored-ten : (s : ℕ) → s < 1024
       → sets l 67 (getD l 67 0 % 128 ∷ s % 256 ∷ s / 256 ∷ []) ≡ lineOf (protected (places l) ++ digits 10 s)
   stored-ten s h =
-      store-three l whole (getD l 67 0 % 128) (s % 256) (s / 256) ∙ with-ten (digits 10 s) (s % 256) (s / 256) two
-    where
-      two : bytesOf 2 (digits 10 s) ≡ s % 256 ∷ s / 256 ∷ []
-      two =
-          ap (bytesOf 2) (digits-add 8 2 s)
-          ∙ ap₂ (λ (y z : ℕ). y ∷ z ∷ []) (number-digits 8 s)
-          (number-digits 2 (s / 256) ∙ omega arith)
+      store-three l whole (getD l 67 0 % 128) (s % 256) (s / 256) ∙ with-ten (digits 10 s) (s % 256) (s / 256) (ten-bytes s h)
 
   -- the sum of the positions stored as the Hamming bits
   pub stored-sum : (s : ℕ) → s ≡ columnSum positions (protected (places l))
@@ -139,17 +140,17 @@ module _ (l : List ℕ) (whole : length l ≡ 70) (bytes : Bytes l) where
       let n : number crc-bits ≡ number (storedCrc (places l)) = ap number (sym storedCrc-bits) in
       omega arith
 
-  -- a register of 31 bits stored as the CRC, with no Hamming bits
-  pub stored-crc : (r : ℕ) → r < 2147483648
-      → sets l 64 (r % 256 ∷ r / 256 % 256 ∷ r / 65536 % 256 ∷ r / 16777216 % 256 ∷ 0 ∷ 0 ∷ [])
-      ≡ lineOf (dataOf (places l) ++ digits 31 r)
-  stored-crc r h =
+  -- a register of 31 bits stored as the CRC, and ten more places
+  stored-both : (r : ℕ) (t : Word) (u v : ℕ) → r < 2147483648 → bytesOf 2 t ≡ u ∷ v ∷ []
+      → sets l 64 (r % 256 ∷ r / 256 % 256 ∷ r / 65536 % 256 ∷ r / 16777216 % 256 ∷ u ∷ v ∷ [])
+      ≡ lineOf ((dataOf (places l) ++ digits 31 r) ++ t)
+  stored-both r t u v h e =
       sets-eq six l 64 (omega arith)
       ∙ ap (λ (t : List ℕ). take 64 l ++ six ++ t) (drop-of-length-le l {i = 70} (omega arith))
       ∙ append-nil (take 64 l ++ six)
-      ∙ sym (append-assoc (take 64 l) (x ∷ y ∷ z ∷ []) (r / 16777216 % 256 ∷ 0 ∷ 0 ∷ []))
-      ∙ ap (λ (a : ℕ). p ++ (a ∷ 0 ∷ 0 ∷ [])) (high ∙ sym (number-digits 7 (r / 16777216)))
-      ∙ sym (lineOf-bits p sixty-seven (digits 7 (r / 16777216)) [] all refl)
+      ∙ sym (append-assoc (take 64 l) (x ∷ y ∷ z ∷ []) (r / 16777216 % 256 ∷ u ∷ v ∷ []))
+      ∙ ap₂ (λ (a : ℕ) (b : List ℕ). p ++ (a ∷ b)) (high ∙ sym (number-digits 7 (r / 16777216))) (sym e)
+      ∙ sym (lineOf-bits p sixty-seven (digits 7 (r / 16777216)) t all refl)
       ∙ ap lineOf (sym bits)
     where
       x : ℕ
@@ -162,7 +163,7 @@ module _ (l : List ℕ) (whole : length l ≡ 70) (bytes : Bytes l) where
       z = r / 65536 % 256
 
       six : List ℕ
-      six = x ∷ y ∷ z ∷ r / 16777216 % 256 ∷ 0 ∷ 0 ∷ []
+      six = x ∷ y ∷ z ∷ r / 16777216 % 256 ∷ u ∷ v ∷ []
 
       p : List ℕ
       p = take 64 l ++ (x ∷ y ∷ z ∷ [])
@@ -186,8 +187,22 @@ module _ (l : List ℕ) (whole : length l ≡ 70) (bytes : Bytes l) where
           ∙ digits-add 8 7 (r / 65536)
           ∙ ap₂ _++_ (sym (digits-mod 8 (r / 65536))) (ap (digits 7) (div-div-eq-div-mul r 65536 256))))
 
-      bits : dataOf (places l) ++ digits 31 r ≡ bitsOf p ++ (digits 7 (r / 16777216) ++ [])
+      bits : (dataOf (places l) ++ digits 31 r) ++ t ≡ bitsOf p ++ (digits 7 (r / 16777216) ++ t)
       bits =
-          ap₂ _++_ (dataOf-line l whole) thirty-one
-          ∙ sym (ap₂ _++_ (bitsOf-append (take 64 l) (x ∷ y ∷ z ∷ [])) (append-nil (digits 7 (r / 16777216)))
-          ∙ append-assoc (bitsOf (take 64 l)) (bitsOf (x ∷ y ∷ z ∷ [])) (digits 7 (r / 16777216)))
+          ap (λ (w : Word). w ++ t)
+          (ap₂ _++_ (dataOf-line l whole) thirty-one
+          ∙ sym (ap (λ (w : Word). w ++ digits 7 (r / 16777216)) (bitsOf-append (take 64 l) (x ∷ y ∷ z ∷ []))
+          ∙ append-assoc (bitsOf (take 64 l)) (bitsOf (x ∷ y ∷ z ∷ [])) (digits 7 (r / 16777216))))
+          ∙ append-assoc (bitsOf p) (digits 7 (r / 16777216)) t
+
+  -- with no Hamming bits
+  pub stored-crc : (r : ℕ) → r < 2147483648
+      → sets l 64 (r % 256 ∷ r / 256 % 256 ∷ r / 65536 % 256 ∷ r / 16777216 % 256 ∷ 0 ∷ 0 ∷ [])
+      ≡ lineOf (dataOf (places l) ++ digits 31 r)
+  stored-crc r h = stored-both r [] 0 0 h refl ∙ ap lineOf (append-nil (dataOf (places l) ++ digits 31 r))
+
+  -- with ten bits of a number as the Hamming bits
+  pub stored-all : (r s : ℕ) → r < 2147483648 → s < 1024
+      → sets l 64 (r % 256 ∷ r / 256 % 256 ∷ r / 65536 % 256 ∷ r / 16777216 % 256 ∷ s % 256 ∷ s / 256 ∷ [])
+      ≡ lineOf ((dataOf (places l) ++ digits 31 r) ++ digits 10 s)
+  stored-all r s h k = stored-both r (digits 10 s) (s % 256) (s / 256) h (ten-bytes s k)

@@ -1,7 +1,7 @@
 -- Bytes as a word: shifts and ors of bytes, and the bytes of a line that are read one after the other.
 use mathlib.Core.Path.{_≡_, refl, sym, ap, ap₂, _∙_, subst}
 use mathlib.Core.Bool.{Bool, true, false}
-use mathlib.Core.List.{List, [], _∷_, _++_}
+use mathlib.Core.List.{List, [], _∷_, _++_, append-assoc}
 use Prim.Native.Nat.{ℕ, zero, suc, _+_, _*_, _/_, _%_, _^_, _≤_, _<_}
 use native.Mathlib.Nat.{lt-of-lt-of-le, le-of-suc-le-suc, not-suc-le-zero}
 use native.Mathlib.Numerals.{add-one}
@@ -73,6 +73,14 @@ read-all n i l h =
 digits-bytes : (x : List ℕ) → digits (8 * length x) (number (bitsOf x)) ≡ bitsOf x
 digits-bytes x = ap (λ (k : ℕ). digits k (number (bitsOf x))) (sym (length-bitsOf x)) ∙ digits-number (bitsOf x)
 
+-- ---- what is past the last column adds nothing to a sum of columns
+pub sum-take : (n : ℕ) (cs : List ℕ) (w : Word) → length cs ≤ n → columnSum cs (take n w) ≡ columnSum cs w
+sum-take n [] w h = refl
+sum-take zero (c ∷ cs) w h = absurd (not-suc-le-zero h)
+sum-take (suc n) (c ∷ cs) [] h = refl
+sum-take (suc n) (c ∷ cs) (false ∷ w) h = sum-take n cs w (le-of-suc-le-suc h)
+sum-take (suc n) (c ∷ cs) (true ∷ w) h = ap (bitXor c) (sum-take n cs w (le-of-suc-le-suc h))
+
 module _ (l : List ℕ) (whole : length l ≡ 70) where
   bytes-word : (n i d : ℕ) → i + n ≤ 70 → d ≡ number (bitsOf (take n (drop i l))) → digits (8 * n) d ≡ bitsOf (take n (drop i l))
   bytes-word n i d h e =
@@ -81,30 +89,27 @@ module _ (l : List ℕ) (whole : length l ≡ 70) where
       count : length (take n (drop i l)) ≡ n
       count = length-take-le n (drop i l) (omega (arith, length-drop i l))
 
-  -- four bytes as they are read
+  -- a word before others, and what follows them
+  pub word-before : (i m d : ℕ) (rest tail : Word) → i + 8 ≤ 70 → d ≡ number (bitsOf (take 8 (drop i l)))
+      → rest ≡ bitsOf (take m (drop (i + 8) l)) ++ tail → digits 64 d ++ rest ≡ bitsOf (take (8 + m) (drop i l)) ++ tail
+  word-before i m d rest tail h e f =
+      ap₂ _++_ (bytes-word 8 i d h e) (f ∙ ap (λ (x : List ℕ). bitsOf (take m x) ++ tail) (sym (drop-drop 8 i l)))
+      ∙ sym (append-assoc (bitsOf (take 8 (drop i l))) (bitsOf (take m (drop 8 (drop i l)))) tail)
+      ∙ ap (λ (w : Word). w ++ tail)
+      (sym (bitsOf-append (take 8 (drop i l)) (take m (drop 8 (drop i l))))
+      ∙ ap bitsOf (sym (take-add 8 m (drop i l))))
+
+  -- the data before four bytes as they are read
   pub last-half : (d : ℕ) → d ≡ number (bitsOf (getD l 64 0 ∷ getD l 65 0 ∷ getD l 66 0 ∷ getD l 67 0 ∷ []))
-      → digits 32 d ≡ bitsOf (take 4 (drop 64 l))
-  last-half d e = bytes-word 4 64 d (omega arith) (e ∙ ap (λ (x : List ℕ). number (bitsOf x)) (sym (read-all 3 64 l (omega arith))))
+      → bitsOf (take 64 l) ++ digits 32 d ≡ bitsOf (take 68 l)
+  last-half d e =
+      ap (λ (w : Word). bitsOf (take 64 l) ++ w)
+      (bytes-word 4 64 d (omega arith) (e ∙ ap (λ (x : List ℕ). number (bitsOf x)) (sym (read-all 3 64 l (omega arith)))))
+      ∙ sym (ap bitsOf (take-add 64 4 l) ∙ bitsOf-append (take 64 l) (take 4 (drop 64 l)))
 
-  -- a word before others
-  pub word-before : (i m d : ℕ) (rest : Word) → i + 8 ≤ 70 → d ≡ number (bitsOf (take 8 (drop i l)))
-      → rest ≡ bitsOf (take m (drop (i + 8) l)) → digits 64 d ++ rest ≡ bitsOf (take (8 + m) (drop i l))
-  word-before i m d rest h e f =
-      ap₂ _++_ (bytes-word 8 i d h e) (f ∙ ap (λ (x : List ℕ). bitsOf (take m x)) (sym (drop-drop 8 i l)))
-      ∙ sym (bitsOf-append (take 8 (drop i l)) (take m (drop 8 (drop i l))))
-      ∙ ap bitsOf (sym (take-add 8 m (drop i l)))
-
-  -- what is past the last column adds nothing
   pub protected-sum : (cs : List ℕ) → length cs ≡ 543 → columnSum cs (bitsOf (take 68 l)) ≡ columnSum cs (protected (places l))
   protected-sum cs e =
       ap (columnSum cs) (sym (take-bitsOf 68 l))
       ∙ sum-take (8 * 68) cs (bitsOf l) (omega arith)
       ∙ sym (sum-take protectedPlaces cs (bitsOf l) (omega (arith, protected-is)))
       ∙ ap (columnSum cs) (sym (protected-bits l whole))
-    where
-      sum-take : (n : ℕ) (cs : List ℕ) (w : Word) → length cs ≤ n → columnSum cs (take n w) ≡ columnSum cs w
-      sum-take n [] w h = refl
-      sum-take zero (c ∷ cs) w h = absurd (not-suc-le-zero h)
-      sum-take (suc n) (c ∷ cs) [] h = refl
-      sum-take (suc n) (c ∷ cs) (false ∷ w) h = sum-take n cs w (le-of-suc-le-suc h)
-      sum-take (suc n) (c ∷ cs) (true ∷ w) h = ap (bitXor c) (sum-take n cs w (le-of-suc-le-suc h))

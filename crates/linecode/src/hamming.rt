@@ -4,10 +4,10 @@ ghost use mathlib.Core.Path.{_≡_};
 ghost use mathlib.Core.List.{_++_};
 ghost use Prim.Native.Nat.{_*_, _/_, _%_, _^_, _<_};
 ghost use lib.Bits.{bitAnd, bitXor};
-ghost use lib.ListN.{getD, replicate};
+ghost use lib.ListN.{take, getD, replicate};
 ghost use Rattle.gf2.specs.Word.{digits, number};
 ghost use Rattle.gf2.specs.Check.{columnSum};
-ghost use Rattle.linecode.specs.Places.{places, lineOf};
+ghost use Rattle.linecode.specs.Places.{bitsOf, places, lineOf};
 ghost use Rattle.linecode.specs.Code.{protected, positions, upFrom, withHamming, storedHamming, syndrome, answerTo};
 
 // The position of each protected place: ascending from 3, without the powers of two.
@@ -658,9 +658,10 @@ fn hamming_bits(
     number_sum(all, b6, b7, b8, p8)
 }
 
-// The exclusive or of the positions of the set protected places: the Hamming bits, bit 0 lowest.
-pub fn position_sum(line: [u8; 70]) -> u16
-    ensures { λ r. ⌜ r ≡ columnSum positions (protected (places line)) ⌝ }
+// The exclusive or of the positions of the places that are set in the data of a line and in a CRC, given as a number: where the CRC has
+// just been worked out, it need not be stored and read back.
+pub fn sum_with(line: [u8; 70], crc: u32) -> u16
+    ensures { λ r. ⌜ r ≡ columnSum positions (bitsOf (take 64 line) ++ digits 32 crc) ⌝ }
 {
     let d0 = words::word_at(line, 0);
     let d1 = words::word_at(line, 8);
@@ -670,8 +671,14 @@ pub fn position_sum(line: [u8; 70]) -> u16
     let d5 = words::word_at(line, 40);
     let d6 = words::word_at(line, 48);
     let d7 = words::word_at(line, 56);
-    let c = words::half(line[64], line[65], line[66], line[67]);
-    hamming_bits(d0, d1, d2, d3, d4, d5, d6, d7, c) as u16
+    hamming_bits(d0, d1, d2, d3, d4, d5, d6, d7, crc) as u16
+}
+
+// The exclusive or of the positions of the set protected places: the Hamming bits, bit 0 lowest.
+pub fn position_sum(line: [u8; 70]) -> u16
+    ensures { λ r. ⌜ r ≡ columnSum positions (protected (places line)) ⌝ }
+{
+    sum_with(line, words::half(line[64], line[65], line[66], line[67]))
 }
 
 // The Hamming bits that a line holds.

@@ -4,7 +4,7 @@ use mathlib.Core.Logic.{⊎-elim}
 use Prim.Native.Nat.{ℕ, _+_, _-_, _≤_, _<_, min}
 use native.Mathlib.Omega.{arith}
 use borrow.Author.Needs.{needs}
-use lib.ListN.{length}
+use lib.ListN.{length, length-replicate}
 use lib.Seq.{paste, paste-zero}
 use Rattle.linecode.proofs.Loading.{blank, copy-step, copied}
 use Rattle.linecode.proofs.place.load.Statement.{statement}
@@ -37,7 +37,7 @@ loop-again c =
     let here = c .before .before .loop in (
       omega arith,
       here .inv .1,
-      copy-step (c .before .before .before .before .args .s .now) (here .line) (here .i) (omega arith) (omega arith) (here .inv .2),
+      copy-step blank (c .before .before .before .before .args .s .now) (here .line) (here .i) (omega (arith, length-replicate {A = ℕ} 70 0)) (omega arith) (here .inv .2),
     )
 
 returns : tie.Need-returns Inv-loop μ-loop
