@@ -6,7 +6,7 @@ use Prim.Native.Nat.{ℕ, zero, suc, _+_, _*_, _/_, _%_, _^_, _≤_, _<_}
 use native.Mathlib.Omega.{arith}
 use lib.Bits.{bitAnd, bitXor}
 use lib.Dec.{T, eqb}
-use lib.ListN.{length, take, drop, length-map, length-drop}
+use lib.ListN.{length, take, drop, getD, length-map, length-drop}
 use lib.Seq.{take-add, drop-drop, length-take-le}
 use Rattle.gf2.specs.Word.{Word, digits, number}
 use Rattle.gf2.specs.Check.{columnSum}
@@ -18,7 +18,7 @@ use Rattle.linecode.specs.Places.{hammingPlaces, bitsOf, places}
 use Rattle.linecode.specs.Code.{positions, hammingColumns, protected, dataOf, storedCrc}
 use Rattle.linecode.proofs.Bytes.{Bytes, length-bitsOf, bitsOf-append}
 use Rattle.linecode.proofs.Line.{dataOf-line}
-use Rattle.linecode.proofs.Stores.{length-storedCrc, protected-parts}
+use Rattle.linecode.proofs.Stores.{length-storedCrc, protected-parts, storedCrc-number}
 use Rattle.sweep.specs.Table.{field, fields}
 use Rattle.sweep.specs.Sums.{atFirst, atSecond, atThird, atFourth, atLast}
 use Rattle.sweep.proofs.Columns.{Additive, add-shr, add-and, add-xor, additive-sum, sum-first}
@@ -158,3 +158,15 @@ module _ (l : List ℕ) (whole : length l ≡ 70) (bytes : Bytes l) where
   stored-lt c e =
       subst (λ (n : ℕ). n < 2 ^ 31) (sym e)
       (subst (λ (k : ℕ). number (storedCrc (places l)) < 2 ^ k) (length-storedCrc l whole bytes) (number-lt (storedCrc (places l))))
+
+  pub stored-number : (r : ℕ) → r ≡ getD l 64 0 + 256 * (getD l 65 0 + 256 * (getD l 66 0 + 256 * (getD l 67 0 % 128)))
+      → r ≡ number (storedCrc (places l))
+  stored-number r e = e ∙ apart-bytes (getD l 64 0) (getD l 65 0) (getD l 66 0) (getD l 67 0 % 128) ∙ storedCrc-number l whole bytes
+    where
+      apart-bytes : (a b c d : ℕ) → a + 256 * (b + 256 * (c + 256 * d)) ≡ a + 256 * b + 65536 * c + 16777216 * d
+      apart-bytes a b c d = omega arith
+
+-- what a slice tells of its bytes
+pub all-bytes : (l : List ℕ) → ((i : ℕ) → getD l i 0 < 256) → Bytes l
+all-bytes [] h = tt
+all-bytes (b ∷ l) h = (h 0, all-bytes l (λ i. h (suc i)))

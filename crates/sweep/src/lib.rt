@@ -3,7 +3,7 @@
 pub mod reading;
 pub mod table;
 
-use linecode::crc;
+use register::words;
 ghost use mathlib.Core.Path.{_≡_};
 ghost use mathlib.Core.List.{List, [], _∷_, _++_};
 ghost use Prim.Native.Nat.{ℕ, _*_, _/_, _%_, _^_, _<_};
@@ -65,9 +65,9 @@ fn block(
 }
 
 // The four blocks of a line's data.
-fn blocks(table: &[u64; 4096], line: [u8; 70]) -> [u64; 4]
-    requires { ⌜ now table ≡ lineTable ⌝ }
-    ensures { λ r. ⌜ ((k : ℕ) → k < 4 → Summed (take 16 (drop (16 * k) line)) (getD r k 0)) ⌝ }
+fn blocks(table: &[u64; 4096], line: &[u8]) -> [u64; 4]
+    requires { ⌜ (now table ≡ lineTable) × (length (now line) ≡ 70) ⌝ }
+    ensures { λ r. ⌜ ((k : ℕ) → k < 4 → Summed (take 16 (drop (16 * k) (now (line .entry)))) (getD r k 0)) ⌝ }
 {
     let mut sums = [0u64; 4];
     let mut k = 0;
@@ -142,17 +142,18 @@ fn positions_from(x0: u64, x1: u64, x2: u64, x3: u64, c: u64) -> u64
     (x0 & 255) ^ (((x1 >> 8) & 511) ^ (((x2 >> 17) & 511) ^ (fourth ^ last)))
 }
 
-// Both sums of a line.
-pub fn sums_of(table: &[u64; 4096], line: [u8; 70]) -> Sums
-    requires { ⌜ now table ≡ lineTable ⌝ }
-    ensures { λ r. ⌜ (r .accepted ≡ accepted (places line)) × (r .positions ≡ columnSum positions (protected (places line))) ⌝ }
+// Both sums of a line that stands in a buffer: its bytes are read there, and not copied.
+pub fn sums_in(table: &[u64; 4096], line: &[u8]) -> Sums
+    requires { ⌜ (now table ≡ lineTable) × (length (now line) ≡ 70) ⌝ }
+    ensures { λ r. ⌜ (r .accepted ≡ accepted (places (now (line .entry))))
+        × (r .positions ≡ columnSum positions (protected (places (now (line .entry))))) ⌝ }
 {
     let sums = blocks(table, line);
     let a0 = sums[0];
     let a1 = sums[1];
     let a2 = sums[2];
     let a3 = sums[3];
-    let stored = crc::stored(line);
+    let stored = words::half(line[64], line[65], line[66], line[67] % 128);
     let c = carried(table, 2 * stored);
     let bits = positions_from(a0 >> 32, a1 >> 32, a2 >> 32, a3 >> 32, c >> 32);
     let crc = crc_of(table, a0, a1, a2, a3);
@@ -160,4 +161,12 @@ pub fn sums_of(table: &[u64; 4096], line: [u8; 70]) -> Sums
         accepted: crc == stored,
         positions: bits as u16,
     }
+}
+
+// Both sums of a line.
+pub fn sums_of(table: &[u64; 4096], line: [u8; 70]) -> Sums
+    requires { ⌜ now table ≡ lineTable ⌝ }
+    ensures { λ r. ⌜ (r .accepted ≡ accepted (places line)) × (r .positions ≡ columnSum positions (protected (places line))) ⌝ }
+{
+    sums_in(table, &line)
 }
