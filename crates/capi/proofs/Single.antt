@@ -1,28 +1,16 @@
 -- Writing and reading one line into a lent buffer: the definitions, case by case.
-use mathlib.Core.Path.{_≡_, refl, sym, ap, _∙_}
-use mathlib.Core.Bool.{Bool, true, false, cond}
-use mathlib.Core.List.{List, [], _++_, append-nil}
+use mathlib.Core.Path.{_≡_, sym, ap, ap₂, _∙_}
+use mathlib.Core.Bool.{Bool, cond}
+use mathlib.Core.List.{List}
 use Prim.Native.Nat.{ℕ}
-use native.Mathlib.Omega.{arith}
 use borrow.Author.Tests.{eq-eqb, ne-eqb}
 use lib.Dec.{eqb}
-use lib.ListN.{length, drop}
-use lib.Seq.{drop-length}
+use lib.ListN.{length}
 use Rattle.linecode.specs.Places.{dataBytes, lineBytes}
-use Rattle.linecode.specs.Entry.{written, reading, zeroLine, writeAnswer, ifFaulty, readAnswer}
+use Rattle.linecode.specs.Entry.{written, reading, ifFaulty}
 use Rattle.linecode.specs.declared.Written.{Written}
 use Rattle.linecode.specs.declared.Answered.{Answered}
-use Rattle.rectangle.specs.Refusals.{unless}
-use Rattle.rectangle.specs.Store.{putBytes}
 use Rattle.capi.specs.Single.{writeRefusal, readRefusal, writeLine, readLine}
-
--- a line put into a buffer of 70 bytes is the whole of it
-pub put-whole : (buffer line : List ℕ) → length buffer ≡ 70 → putBytes buffer 0 line ≡ line
-unfolding putBytes lineBytes
-put-whole buffer line e =
-    ap (λ (n : ℕ). line ++ drop n buffer) (sym e)
-    ∙ ap (λ (l : List ℕ). line ++ l) (drop-length buffer)
-    ∙ append-nil line
 
 -- ---- writing
 module _ (payload line : List ℕ) where
@@ -32,37 +20,20 @@ module _ (payload line : List ℕ) where
   unfolding writeLine
   write-refused r e d = rw (e, ne-eqb r 0 d)
 
-  -- no room for the line, whatever the data
-  pub write-no-room : (length line ≡ 70 → ⊥) → writeRefusal payload line ≡ 7
-  unfolding writeRefusal lineBytes
-  write-no-room h = rw (ne-eqb (length line) 70 h) (either (eqb (length payload) dataBytes))
-    where
-      either : (b : Bool) → unless b 7 7 ≡ 7
-      either true = refl
-      either false = refl
+  pub write-no-data : (length payload ≡ 64 → ⊥) → writeRefusal payload line ≡ 7
+  unfolding writeRefusal dataBytes
+  write-no-data h = rw (ne-eqb (length payload) 64 h)
 
-  -- what the line code answers
-  pub write-turned : (w : Written) → w ≡ writeAnswer payload → (w .answer ≡ 0 → ⊥) → writeRefusal payload line ≡ w .answer
-  unfolding writeRefusal writeAnswer
-  write-turned w e d = go (eqb (length payload) dataBytes) e
-    where
-      go : (b : Bool) → w ≡ cond b (record { answer = 0; line = written payload }) (record { answer = 7; line = zeroLine })
-          → unless b 7 (unless (eqb (length line) lineBytes) 7 0) ≡ w .answer
-      go true f = absurd (d (ap (λ (v : Written). v .answer) f))
-      go false f = sym (ap (λ (v : Written). v .answer) f)
+  pub write-no-room : length payload ≡ 64 → (length line ≡ 70 → ⊥) → writeRefusal payload line ≡ 7
+  unfolding writeRefusal dataBytes lineBytes
+  write-no-room e h = rw (eq-eqb (length payload) 64 e, ne-eqb (length line) 70 h)
 
-  pub write-given : (w : Written) (l : List ℕ) → length line ≡ 70 → w ≡ writeAnswer payload → w .answer ≡ 0 → l ≡ putBytes line 0 (w .line)
+  pub write-given : (l : List ℕ) → length payload ≡ 64 → length line ≡ 70 → l ≡ written payload
       → _≡_ {A = Written} (record { answer = 0; line = l }) (writeLine payload line)
-  unfolding writeLine writeRefusal writeAnswer lineBytes
-  write-given w l room e z p = rw (eq-eqb (length line) 70 room) (go (eqb (length payload) dataBytes) e)
-    where
-      go : (b : Bool) → w ≡ cond b (record { answer = 0; line = written payload }) (record { answer = 7; line = zeroLine })
-          → _≡_ {A = Written} (record { answer = 0; line = l })
-          (cond (eqb (unless b 7 0) 0) (record { answer = 0; line = written payload }) (record { answer = unless b 7 0; line = line }))
-      go true f =
-          ap (λ (x : List ℕ). record { answer = 0; line = x })
-          (p ∙ put-whole line (w .line) room ∙ ap (λ (v : Written). v .line) f)
-      go false f = let seven : w .answer ≡ 7 = ap (λ (v : Written). v .answer) f in let none : ⊥ = omega arith in absurd none
+  unfolding writeLine writeRefusal dataBytes lineBytes
+  write-given l e room p =
+      ap (λ (x : List ℕ). record { answer = 0; line = x }) p
+      ∙ rw (eq-eqb (length payload) 64 e, eq-eqb (length line) 70 room)
 
 -- ---- reading alone
 module _ (line out : List ℕ) where
@@ -79,10 +50,17 @@ module _ (line out : List ℕ) where
   unfolding readRefusal lineBytes
   read-no-room e h = rw (eq-eqb (length line) 70 e, ne-eqb (length out) 70 h)
 
-  pub read-given : (r : Answered) (l : List ℕ) → length line ≡ 70 → length out ≡ 70 → r ≡ readAnswer line → l ≡ putBytes out 0 (r .line)
-      → _≡_ {A = Answered} (record { answer = r .answer; line = l; mark = r .mark }) (readLine line out)
-  unfolding readLine readRefusal readAnswer lineBytes
-  read-given r l e room f p =
-      ap (λ (x : List ℕ). record { answer = r .answer; line = x; mark = r .mark }) (p ∙ put-whole out (r .line) room)
-      ∙ f
+  -- what was read, with the answer that its mark gives
+  pub read-given : (a : ℕ) (l : List ℕ) (m : ℕ) → length line ≡ 70 → length out ≡ 70 → l ≡ reading line .line → m ≡ reading line .mark
+      → a ≡ cond (eqb m 4) 10 0 → _≡_ {A = Answered} (record { answer = a; line = l; mark = m }) (readLine line out)
+  unfolding readLine readRefusal lineBytes
+  read-given a l m e room f g h =
+      ap (λ (x : ℕ). record { answer = x; line = l; mark = m }) h
+      ∙ ap₂ (λ (x : List ℕ) (y : ℕ). ifFaulty (record { line = x; mark = y })) f g
       ∙ rw (eq-eqb (length line) 70 e, eq-eqb (length out) 70 room)
+
+pub faulty-answer : (m : ℕ) → m ≡ 4 → _≡_ {A = ℕ} 10 (cond (eqb m 4) 10 0)
+faulty-answer m e = ap (λ (b : Bool). cond {A = ℕ} b 10 0) (sym (eq-eqb m 4 e))
+
+pub accepted-answer : (m : ℕ) → (m ≡ 4 → ⊥) → _≡_ {A = ℕ} 0 (cond (eqb m 4) 10 0)
+accepted-answer m h = ap (λ (b : Bool). cond {A = ℕ} b 10 0) (sym (ne-eqb m 4 h))

@@ -7,7 +7,6 @@ ghost use Rattle.rectangle.specs.Tables.{TablesMade, makeTables};
 ghost use Rattle.rectangle.specs.Change.{LineChanged, changeLine};
 ghost use Rattle.rectangle.specs.Repair.{StoreRepaired, repairStore};
 ghost use Rattle.capi.specs.Single.{writeLine, readLine};
-use rectangle::lines;
 
 // A line written from 64 data bytes into `line`.
 #[no_mangle]
@@ -16,16 +15,14 @@ pub extern "C" fn sudoku_write_line(payload: &[u8], line: &mut [u8]) -> u32
         (record { answer = r; line = now (line .exit) })
         (writeLine (now (payload .entry)) (now (line .entry))) ⌝ }
 {
-    if line.len() != 70 {
+    if payload.len() != 64 {
         return 7;
     }
-    let written = single::write(payload);
-    let answer = written.answer;
-    if answer != 0 {
-        return answer;
+    let room = line.len();
+    if room != 70 {
+        return 7;
     }
-    let bytes = written.line;
-    lines::put_line(line, 0, bytes);
+    single::alone::write_into(payload, line);
     0
 }
 
@@ -43,11 +40,12 @@ pub extern "C" fn sudoku_read_line(line: &[u8], out: &mut [u8], mark: &mut u8) -
     if out.len() != 70 {
         return 7;
     }
-    let read = single::read(line);
-    let bytes = read.line;
-    lines::put_line(out, 0, bytes);
-    *mark = read.mark;
-    read.answer
+    let m = single::alone::read_into(line, out);
+    *mark = m;
+    if m == 4 {
+        return 10;
+    }
+    0
 }
 
 // Both parity tables made from the lines.

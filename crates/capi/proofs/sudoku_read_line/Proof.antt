@@ -1,7 +1,7 @@
 -- `capi::sudoku_read_line` meets its contract: 5 and 7 by the lengths, else what reading alone gives.
 use native.Mathlib.Omega.{arith}
 use borrow.Author.Needs.{needs}
-use Rattle.capi.proofs.Single.{read-refused, read-no-line, read-no-room, read-given}
+use Rattle.capi.proofs.Single.{read-refused, read-no-line, read-no-room, read-given, faulty-answer, accepted-answer}
 use Rattle.capi.proofs.sudoku_read_line.Statement.{statement}
 use Rattle.capi.proofs.sudoku_read_line.Tie as tie
 
@@ -17,26 +17,37 @@ returns-2 c =
     (read-no-room (a .line .now) (a .out .now) (c .before .if1 .left) (c .if2 .taken))
     (λ z. omega arith)
 
-read-requires : tie.Need-read-requires
-read-requires c κs = search needs
-
-put-line-requires : tie.Need-put-line-requires
-put-line-requires c κs = search needs
+read-into-requires : tie.Need-read-into-requires
+read-into-requires c κs = search needs
 
 same-length : tie.Need-same-length
 same-length c = search needs
 
 returns-3 : tie.Need-returns-3
 returns-3 c =
-    let put = c .before .before in
-    let read = put .before .before .before in
-    let room = read .before in
-    let whole = room .before in
-    let a = whole .before .before .before .args in
-    read-given (a .line .now) (a .out .now) (read .read .result) (put .put-line .last .0) (whole .if1 .left) (room .if2 .left)
-    (read .read .ensures)
-    (put .put-line .ensures)
+    let read = c .before .before .before in
+    let room = read .before .before in
+    let a = room .before .before .before .before .args in
+    read-given (a .line .now) (a .out .now) 10 (read .read-into .last .1 .0) (read .read-into .result) (room .before .if1 .left)
+    (room .if2 .left)
+    (read .read-into .ensures .0)
+    (read .read-into .ensures .1)
+    (faulty-answer (read .read-into .result) (c .if3 .taken))
+
+same-length-2 : tie.Need-same-length-2
+same-length-2 c = search needs
+
+returns-4 : tie.Need-returns-4
+returns-4 c =
+    let read = c .before .before .before in
+    let room = read .before .before in
+    let a = room .before .before .before .before .args in
+    read-given (a .line .now) (a .out .now) 0 (read .read-into .last .1 .0) (read .read-into .result) (room .before .if1 .left)
+    (room .if2 .left)
+    (read .read-into .ensures .0)
+    (read .read-into .ensures .1)
+    (accepted-answer (read .read-into .result) (c .if3 .left))
 
 pub sudoku-read-line-spec : {M : Type 1} → statement M
 sudoku-read-line-spec =
-    tie.close (tie.spec returns returns-2 read-requires put-line-requires same-length returns-3)
+    tie.close (tie.spec returns returns-2 read-into-requires same-length returns-3 same-length-2 returns-4)
