@@ -10,6 +10,14 @@ use lib.Seq.{paste, paste-zero, paste-suc, length-paste, take-append-le, take-al
 use Rattle.linecode.specs.Places.{lineBytes, loaded}
 use Rattle.rectangle.specs.Store.{bytesAt, putBytes}
 
+-- the part of a buffer that is line n
+pub part-line : (buffer : List ℕ) (n : ℕ) → take (n * 70 + 70 - n * 70) (drop (n * 70) buffer) ≡ bytesAt buffer n
+unfolding bytesAt lineBytes
+part-line buffer n = ap (λ (k : ℕ). take k (drop (n * 70) buffer)) (size (n * 70))
+  where
+    size : (at : ℕ) → at + 70 - at ≡ 70
+    size at = omega arith
+
 -- what is loaded from line n of a buffer
 pub loaded-line : (buffer : List ℕ) (n : ℕ) → suc n * 70 ≤ length buffer
     → loaded (take (n * 70 + 70 - n * 70) (drop (n * 70) buffer)) ≡ bytesAt buffer n

@@ -56,15 +56,16 @@ pub fn column_parity(column_table: &[u8], column: ColumnIndex) -> [u8; 70]
     line_at(column_table, c)
 }
 
-// Line n of a buffer as it reads alone, written as line m of another: its mark. An untouched line is copied and its last bytes are stored
-// over the copy: a line patched on the stack and copied at once would make the processor wait.
+// Line n of a buffer as it reads alone, written as line m of another: its mark. An untouched line is copied straight from one buffer to the
+// other, and its last bytes are stored over the copy: a line patched on the stack and copied at once would make the processor wait.
 pub fn read_into(table: &[u64; 4096], found: &[u8], n: usize, out: &mut [u8], m: usize) -> u8
     requires { ⌜ (now table ≡ lineTable) × (suc n * 70 ≤ length (now found)) × (suc m * 70 ≤ length (now out)) ⌝ }
     ensures { λ r. ⌜ (now (out .exit) ≡ putBytes (now (out .entry)) m (reading (bytesAt (now (found .entry)) n) .line))
         × (r ≡ reading (bytesAt (now (found .entry)) n) .mark) ⌝ }
 {
+    let from = n * 70;
+    let sums = sweep::sums_in(table, &found[from..from + 70]);
     let line = line_at(found, n);
-    let sums = sweep::sums_of(table, line);
     if sums.accepted {
         put_line(out, m, line);
         let at = m * 70;
