@@ -4,8 +4,8 @@ ghost use mathlib.Core.Path.{_≡_};
 ghost use lib.ListN.{take};
 ghost use Rattle.register.specs.Slices.{after};
 
-// The register after a line's 64 data bytes. Of sixteen bytes those that meet the register come last: the other entries are read while it is still being worked out. Each table is
-// read at one place of the program, here, so that LLVM puts it there.
+// The register after a line's 64 data bytes. Of sixteen bytes those that meet the register come last: the other entries are read while it
+// is still being worked out. Each table is read at one place of the program, here, so that LLVM puts it there.
 pub fn after_data(line: [u8; 70]) -> u32
     ensures { λ r. ⌜ r ≡ after 0 (take 64 line) ⌝ }
 {
