@@ -17,7 +17,7 @@
  *   overlap each other.
  *
  * Calls keep no state and allocate nothing, so threads may call at once, each on writable buffers of its own. Making tables and
- * repair need some 100 kB of stack, whatever the size of the rectangle.
+ * repair need about 110 kB of stack, whatever the size of the rectangle.
  *
  * Example: a caption is stored, two of its bits are hurt, and repair brings it back.
  *
