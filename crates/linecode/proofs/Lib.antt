@@ -6,7 +6,6 @@ pub mod Stores
 pub mod Loading
 pub mod Linear
 pub mod WordBytes
-pub mod WordSums
 pub mod Syndrome
 pub mod CrcRegister
 pub mod Codeword

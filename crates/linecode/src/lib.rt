@@ -4,7 +4,6 @@ pub mod alone;
 pub mod crc;
 pub mod hamming;
 pub mod place;
-mod words;
 
 // What the entry point that writes answers: 0 and the line, or 7 and zero bytes.
 pub struct Written {

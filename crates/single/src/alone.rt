@@ -17,7 +17,7 @@ ghost use Rattle.linecode.specs.Entry.{written, reading};
 pub fn rewrite(line: [u8; 70]) -> [u8; 70]
     ensures { λ r. ⌜ r ≡ lineOf (codeword (dataOf (places line))) ⌝ }
 {
-    hamming::append(crc::append(line))
+    wordsums::append(crc::append(line))
 }
 
 // A line written from 64 data bytes.
@@ -35,7 +35,7 @@ pub fn write_into(payload: &[u8], line: &mut [u8])
 {
     let bytes = place::load(payload);
     let crc = crc::of_data(bytes);
-    let positions = hamming::sum_with(bytes, crc);
+    let positions = wordsums::sum_with(bytes, crc);
     place::store(bytes, line);
     line[64] = (crc % 256) as u8;
     line[65] = (crc / 256 % 256) as u8;
@@ -51,7 +51,7 @@ fn flip_of(line: [u8; 70]) -> usize
     requires { ⌜ accepted (places line) ≡ false ⌝ }
     ensures { λ i. ⌜ readAlone (places line) ≡ afterCorrector i (places line) ⌝ }
 {
-    let Answer::Protected(i) = hamming::answer_to(hamming::syndrome_of(line)) else {
+    let Answer::Protected(i) = hamming::answer_to(wordsums::syndrome_of(line)) else {
         return 543;
     };
     if crc::agrees(place::flip_place(line, i)) {
@@ -68,7 +68,7 @@ fn read_hurt(line: [u8; 70]) -> Reading
     let i = flip_of(line);
     if i < 543 {
         return Reading {
-            line: hamming::append(place::flip_place(line, i)),
+            line: wordsums::append(place::flip_place(line, i)),
             mark: 1,
         };
     }
@@ -84,7 +84,7 @@ pub fn read_line(line: [u8; 70]) -> Reading
 {
     if crc::agrees(line) {
         return Reading {
-            line: hamming::append(line),
+            line: wordsums::append(line),
             mark: 0,
         };
     }
@@ -98,7 +98,7 @@ pub fn read_into(line: &[u8], out: &mut [u8]) -> u8
 {
     let bytes = place::load(line);
     if crc::agrees(bytes) {
-        let positions = hamming::position_sum(bytes);
+        let positions = wordsums::position_sum(bytes);
         place::store(bytes, out);
         out[67] = bytes[67] % 128;
         out[68] = (positions % 256) as u8;
@@ -116,7 +116,7 @@ pub fn is_correct(line: [u8; 70]) -> bool
     ensures { λ r. ⌜ r ≡ isCorrect (places line) ⌝ }
 {
     if crc::agrees(line) {
-        return hamming::position_sum(line) == hamming::stored(line);
+        return wordsums::position_sum(line) == hamming::stored(line);
     }
     false
 }

@@ -1,9 +1,9 @@
--- `linecode::hamming::number_sum` meets its contract. Each call is a step of the form, and the form is the sum.
+-- `wordsums::number_sum` meets its contract. Each call is a step of the form, and the form is the sum.
 use borrow.Author.Needs.{needs}
 use mathlib.Core.Path.{refl, ap₂, _∙_}
-use Rattle.linecode.proofs.WordSums.{nibblesForm, nibblesBy, highBy, lowBy, sumBy, folded-step, added-step, paired-step, sum-words}
-use Rattle.linecode.proofs.hamming.number_sum.Statement.{statement}
-use Rattle.linecode.proofs.hamming.number_sum.Tie as tie
+use Rattle.wordsums.proofs.WordSums.{nibblesForm, nibblesBy, highBy, lowBy, sumBy, folded-step, added-step, paired-step, sum-words}
+use Rattle.wordsums.proofs.number_sum.Statement.{statement}
+use Rattle.wordsums.proofs.number_sum.Tie as tie
 
 paired-requires : tie.Need-paired-requires
 paired-requires c κs = search needs

@@ -1,14 +1,14 @@
--- `linecode::words::half` meets its contract.
+-- `wordsums::words::half` meets its contract.
 use mathlib.Core.Path.{_≡_, sym, ap, _∙_}
 use mathlib.Core.List.{[], _∷_}
 use Prim.Native.Nat.{ℕ, _+_, _*_, _<_}
 use native.Mathlib.Omega.{arith}
 use borrow.Author.Needs.{needs}
 use Rattle.gf2.specs.Word.{number}
 use Rattle.linecode.specs.Places.{bitsOf}
 use Rattle.linecode.proofs.WordBytes.{number-bytes}
-use Rattle.linecode.proofs.words.half.Statement.{statement}
-use Rattle.linecode.proofs.words.half.Tie as tie
+use Rattle.wordsums.proofs.words.half.Statement.{statement}
+use Rattle.wordsums.proofs.words.half.Tie as tie
 
 four : (a b c d : ℕ) → a < 256 → b < 256 → c < 256 → d < 256
     → number (bitsOf (a ∷ b ∷ c ∷ d ∷ [])) ≡ a + 256 * (b + 256 * (c + 256 * d))

@@ -1,10 +1,10 @@
--- `linecode::hamming::hamming_bits` meets its contract: each place stands at its position, and the numbers there are summed.
+-- `wordsums::hamming_bits` meets its contract: each place stands at its position, and the numbers there are summed.
 use borrow.Author.Needs.{needs}
 use mathlib.Core.Path.{refl, _∙_}
 use mathlib.Core.List.{[], _∷_}
-use Rattle.linecode.proofs.WordSums.{spreadBy, acrossBy, position-words}
-use Rattle.linecode.proofs.hamming.hamming_bits.Statement.{statement}
-use Rattle.linecode.proofs.hamming.hamming_bits.Tie as tie
+use Rattle.wordsums.proofs.WordSums.{spreadBy, acrossBy, position-words}
+use Rattle.wordsums.proofs.hamming_bits.Statement.{statement}
+use Rattle.wordsums.proofs.hamming_bits.Tie as tie
 
 number-sum-requires : tie.Need-number-sum-requires
 number-sum-requires c κs = search needs

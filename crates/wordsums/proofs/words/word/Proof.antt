@@ -1,10 +1,10 @@
--- `linecode::words::word` meets its contract.
+-- `wordsums::words::word` meets its contract.
 use native.Mathlib.Omega.{arith}
 use borrow.Author.Needs.{needs}
 use mathlib.Core.List.{[], _∷_}
 use Rattle.linecode.proofs.WordBytes.{or-all}
-use Rattle.linecode.proofs.words.word.Statement.{statement}
-use Rattle.linecode.proofs.words.word.Tie as tie
+use Rattle.wordsums.proofs.words.word.Statement.{statement}
+use Rattle.wordsums.proofs.words.word.Tie as tie
 
 returns : tie.Need-returns
 returns c =

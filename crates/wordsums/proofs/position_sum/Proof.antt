@@ -1,14 +1,14 @@
--- `linecode::hamming::position_sum` meets its contract: the data and the four bytes after them are bytes 0 to 67.
+-- `wordsums::position_sum` meets its contract: the data and the four bytes after them are bytes 0 to 67.
 use native.Mathlib.Omega.{arith}
 use borrow.Author.Needs.{needs}
 use mathlib.Core.Path.{_≡_, ap, _∙_}
 use Rattle.gf2.specs.Check.{columnSum}
 use Rattle.linecode.specs.Code.{positions}
 use Rattle.linecode.proofs.Bytes.{array-length}
 use Rattle.linecode.proofs.Positions.{length-positions}
 use Rattle.linecode.proofs.WordBytes.{last-half, protected-sum}
-use Rattle.linecode.proofs.hamming.position_sum.Statement.{statement}
-use Rattle.linecode.proofs.hamming.position_sum.Tie as tie
+use Rattle.wordsums.proofs.position_sum.Statement.{statement}
+use Rattle.wordsums.proofs.position_sum.Tie as tie
 
 array-read-half : tie.Need-array-read-half
 array-read-half c = search needs

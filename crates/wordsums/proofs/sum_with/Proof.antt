@@ -1,16 +1,16 @@
--- `linecode::hamming::sum_with` meets its contract: the words hold the bits of the data.
+-- `wordsums::sum_with` meets its contract: the words hold the bits of the data.
 use native.Mathlib.Omega.{arith}
 use borrow.Author.Needs.{needs}
 use mathlib.Core.Path.{_≡_, refl, ap, _∙_}
 use Prim.Native.Nat.{ℕ, _<_}
 use Rattle.gf2.specs.Word.{Word, digits}
 use Rattle.gf2.specs.Check.{columnSum}
 use Rattle.linecode.specs.Code.{positions}
 use Rattle.linecode.proofs.Bytes.{array-length}
 use Rattle.linecode.proofs.Positions.{position-sum-lt}
 use Rattle.linecode.proofs.WordBytes.{word-before}
-use Rattle.linecode.proofs.hamming.sum_with.Statement.{statement}
-use Rattle.linecode.proofs.hamming.sum_with.Tie as tie
+use Rattle.wordsums.proofs.sum_with.Statement.{statement}
+use Rattle.wordsums.proofs.sum_with.Tie as tie
 
 word-at-requires : tie.Need-word-at-requires
 word-at-requires c κs = search needs

@@ -1,15 +1,15 @@
--- `linecode::words::word_at` meets its contract.
+-- `wordsums::words::word_at` meets its contract.
 use native.Mathlib.Omega.{arith}
 use borrow.Author.Needs.{needs}
 use mathlib.Core.Path.{_≡_, sym, ap, _∙_}
 use mathlib.Core.List.{List}
 use Prim.Native.Nat.{ℕ}
 use Rattle.gf2.specs.Word.{number}
 use Rattle.linecode.specs.Places.{bitsOf}
 use Rattle.linecode.proofs.Bytes.{array-length}
 use Rattle.linecode.proofs.WordBytes.{read-all}
-use Rattle.linecode.proofs.words.word_at.Statement.{statement}
-use Rattle.linecode.proofs.words.word_at.Tie as tie
+use Rattle.wordsums.proofs.words.word_at.Statement.{statement}
+use Rattle.wordsums.proofs.words.word_at.Tie as tie
 
 array-read-word : tie.Need-array-read-word
 array-read-word c = search needs

@@ -1,14 +1,14 @@
--- `linecode::hamming::syndrome_of` meets its contract.
+-- `wordsums::syndrome_of` meets its contract.
 use native.Mathlib.Omega.{arith}
 use borrow.Author.Needs.{needs}
 use mathlib.Core.Path.{_≡_, ap₂, _∙_}
 use lib.Bits.{bitXor}
 use Rattle.linecode.specs.Places.{places}
 use Rattle.linecode.proofs.Bytes.{array-length}
 use Rattle.linecode.proofs.Line.{length-places}
 use Rattle.linecode.proofs.Syndrome.{syndrome-parts}
-use Rattle.linecode.proofs.hamming.syndrome_of.Statement.{statement}
-use Rattle.linecode.proofs.hamming.syndrome_of.Tie as tie
+use Rattle.wordsums.proofs.syndrome_of.Statement.{statement}
+use Rattle.wordsums.proofs.syndrome_of.Tie as tie
 
 position-sum-requires : tie.Need-position-sum-requires
 position-sum-requires c κs = search needs

@@ -1,0 +1,2 @@
+-- What the code computes with words, and which sums it is.
+pub mod WordSums
