@@ -23,7 +23,7 @@ pub fn load(s: &[u8]) -> [u8; 70]
 }
 
 // A line put into a buffer of its length. Bytes that change are stored over it there: a line patched on the stack and copied at once
-// would make the processor wait.
+// would make the processor wait. Public for the crates above, which have tested the length.
 pub fn store(line: [u8; 70], out: &mut [u8])
     requires { ⌜ length (now out) ≡ 70 ⌝ }
     ensures { λ _. ⌜ now (out .exit) ≡ line ⌝ }

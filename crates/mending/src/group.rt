@@ -1,6 +1,6 @@
 // The groups of a rectangle in visiting order, rows and then columns: their lines, and the line and the number that stand beside each:
 // the difference, that is the exclusive or of its parity line and its lines as they stand, and how many of its lines are faulty.
-// Public for `repair`, which has tested or made what they ask; not an entry point.
+// Public for `visit` and for `repair`, which have tested or made what these ask; not entry points.
 ghost use mathlib.Core.Bool.{false};
 ghost use mathlib.Core.Path.{_≡_};
 ghost use Prim.Native.Nat.{ℕ, suc, _+_, _*_, _≤_, _<_};
@@ -82,7 +82,7 @@ pub fn count_faulty(rows: usize, faulty: &[u16]) -> usize
 }
 
 // Whether every byte of a line is 0.
-pub fn is_zero(line: [u8; 70]) -> bool
+fn is_zero(line: [u8; 70]) -> bool
     ensures { λ r. ⌜ r ≡ allZero line ⌝ }
 {
     let mut i = 0;
@@ -120,7 +120,7 @@ pub fn add(lacks: &mut [u8], k: usize, change: [u8; 70])
 }
 
 // The place after place i that may be set next: where a byte of zeros begins at i, it is passed over.
-pub fn after_place(line: [u8; 70], i: usize) -> usize
+fn after_place(line: [u8; 70], i: usize) -> usize
     requires { ⌜ i < 553 ⌝ }
     ensures { λ r. ⌜ (i < r) × (r ≤ 553) × ((k : ℕ) → i < k → k < r → getD (places line) k false ≡ false) ⌝ }
 {

@@ -1,5 +1,5 @@
 // A visit of one group: the trials, and the rebuilding of a line that is left alone. Document 01, "Repair".
-// Public for `repair`, which has tested or made what they ask; not an entry point.
+// `visit_group` is public for `repair`, which has tested or made what it asks; not an entry point.
 ghost use mathlib.Core.Path.{_≡_};
 ghost use Prim.Native.Nat.{ℕ, _*_, _≤_, _<_};
 ghost use lib.ListN.{length, getD, take, set};
@@ -18,7 +18,7 @@ use rectangle::lines;
 use sweep::reading;
 
 // A faulty line is mended: the new line and its mark are written, and its row and its column learn of the change and have one faulty line less.
-pub fn mend(
+fn mend(
     out: &mut [u8],
     marks: &mut [u8],
     lacks: &mut [u8],
@@ -48,7 +48,7 @@ pub fn mend(
 
 // Each faulty line of the group in rising order tries each place in rising order: flip it, read the line alone. The first accepted
 // trial ends the search for that line.
-pub fn trial(
+fn trial(
     table: &[u64; 4096],
     out: &mut [u8],
     marks: &mut [u8],
@@ -89,7 +89,7 @@ pub fn trial(
 }
 
 // If exactly one line of the group is faulty, it is rebuilt: the group's difference, added to it, leaves the parity line and the others.
-pub fn settle_group(
+fn settle_group(
     out: &mut [u8],
     marks: &mut [u8],
     lacks: &mut [u8],
@@ -112,7 +112,7 @@ pub fn settle_group(
 }
 
 // Where two or more lines are faulty, the difference is the mismatch; if it has 1 to 6 places, the faulty lines try them.
-pub fn try_group(
+fn try_group(
     table: &[u64; 4096],
     out: &mut [u8],
     marks: &mut [u8],
