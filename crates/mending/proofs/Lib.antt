@@ -6,6 +6,7 @@ pub mod Numbers
 pub mod Mending
 pub mod Held
 pub mod Added
+pub mod Busy
 pub mod Mended
 pub mod Places
 pub mod Settling

@@ -134,13 +134,32 @@ fn after_place(line: [u8; 70], i: usize) -> usize
     i + 1
 }
 
-// The set places of a line in rising order. A line of zeros has none, and from the seventh on they are not looked for.
+// How many of a line's bytes are not 0, of those whose eight bits are all places: each has a set place.
+fn busy_bytes(line: [u8; 70]) -> usize
+    ensures { λ r. ⌜ r ≤ length (setPlaces 0 (places line)) ⌝ }
+{
+    let mut busy: usize = 0;
+    let mut i = 0;
+    while i < 67 {
+        if line[i] != 0 {
+            busy += 1;
+        }
+        i += 1;
+    }
+    busy
+}
+
+// The set places of a line in rising order. A line of zeros has none, and from the seventh on they are not looked for: where lines are
+// hurt past repair, most differences have many, and their busy bytes tell so at once.
 pub fn set_places(line: [u8; 70]) -> Places
     ensures { λ r. ⌜ Listed (setPlaces 0 (places line)) (r .count) (r .at) ⌝ }
 {
     let mut at = [0usize; 6];
     if is_zero(line) {
         return Places { count: 0, at };
+    }
+    if 6 < busy_bytes(line) {
+        return Places { count: 7, at };
     }
     let mut count: usize = 0;
     let mut i = 0;

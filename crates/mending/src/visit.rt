@@ -5,7 +5,7 @@ ghost use Prim.Native.Nat.{ℕ, _*_, _≤_, _<_};
 ghost use lib.ListN.{length, getD, take, set};
 ghost use Rattle.gf2.specs.Word.{Word};
 ghost use Rattle.linecode.specs.Places.{linePlaces, lineOf};
-ghost use Rattle.sweep.specs.Table.{lineTable};
+ghost use Rattle.line_table.specs.Table.{lineTable};
 ghost use Rattle.scheme.specs.Layer.{readLine};
 ghost use Rattle.scheme.specs.Visit.{State, tryLines, settle, trial as trial·, visit};
 ghost use Rattle.rectangle.specs.Store.{lineLayer, stride};

@@ -1,22 +1,14 @@
 -- Copying a line out of a buffer and into it, and one buffer into another.
 use mathlib.Core.Path.{_≡_, sym, ap, ap₂, _∙_}
-use mathlib.Core.List.{List, [], _∷_, _++_, append-nil, append-assoc}
+use mathlib.Core.List.{List, _++_, append-nil}
 use Prim.Native.Nat.{ℕ, suc, _+_, _-_, _*_, _≤_, _<_}
-use native.Mathlib.Nat.{suc-mul, suc-add, zero-add}
+use native.Mathlib.Nat.{suc-mul, zero-add}
 use native.Mathlib.Numerals.{add-one}
 use native.Mathlib.Omega.{arith}
-use lib.ListN.{length, take, drop, getD, set, replicate, length-drop, length-set, drop-of-length-le}
-use lib.Seq.{paste, paste-zero, paste-suc, length-paste, take-append-le, take-all, length-take-le, set-append-left, sets}
+use lib.ListN.{length, take, drop, getD, set, replicate, length-drop, drop-of-length-le}
+use lib.Seq.{paste, paste-zero, paste-suc, length-paste, take-append-le, take-all, length-take-le}
 use Rattle.linecode.specs.Places.{lineBytes, loaded}
 use Rattle.rectangle.specs.Store.{bytesAt, putBytes}
-
--- the part of a buffer that is line n
-pub part-line : (buffer : List ℕ) (n : ℕ) → take (n * 70 + 70 - n * 70) (drop (n * 70) buffer) ≡ bytesAt buffer n
-unfolding bytesAt lineBytes
-part-line buffer n = ap (λ (k : ℕ). take k (drop (n * 70) buffer)) (size (n * 70))
-  where
-    size : (at : ℕ) → at + 70 - at ≡ 70
-    size at = omega arith
 
 -- what is loaded from line n of a buffer
 pub loaded-line : (buffer : List ℕ) (n : ℕ) → suc n * 70 ≤ length buffer
@@ -89,39 +81,3 @@ copied-end old bytes buffer i h p =
     pasting-all old bytes 0 (length old) buffer i p h
     ∙ ap (λ (l : List ℕ). take (length old) bytes ++ l) (drop-of-length-le old {i = 0 + length old} (omega arith))
     ∙ append-nil (take (length old) bytes)
-
--- ---- bytes of a line stored over it where it lies
-set-append-add : (xs ys : List ℕ) (i v : ℕ) → set (xs ++ ys) (length xs + i) v ≡ xs ++ set ys i v
-set-append-add [] ys i v = ap (λ (j : ℕ). set ys j v) (zero-add i)
-set-append-add (x ∷ xs) ys i v =
-    ap (λ (j : ℕ). set (x ∷ (xs ++ ys)) j v) (suc-add (length xs) i) ∙ ap (λ (l : List ℕ). x ∷ l) (set-append-add xs ys i v)
-
-module _ (buffer : List ℕ) (n : ℕ) (inside : suc n * 70 ≤ length buffer) where
-  byte-put : (line : List ℕ) (i v : ℕ) → length line ≡ 70 → i < 70
-      → set (putBytes buffer n line) (n * 70 + i) v ≡ putBytes buffer n (set line i v)
-  unfolding putBytes lineBytes
-  byte-put line i v e h =
-      ap (λ (l : List ℕ). set l (n * 70 + i) v) (append-assoc front line back)
-      ∙ ap (λ (k : ℕ). set (front ++ (line ++ back)) (k + i) v) (sym long)
-      ∙ set-append-add front (line ++ back) i v
-      ∙ ap (λ (l : List ℕ). front ++ l) (set-append-left line back i v (omega (arith, e)))
-      ∙ sym (append-assoc front (set line i v) back)
-    where
-      front : List ℕ
-      front = take (n * 70) buffer
-
-      back : List ℕ
-      back = drop (suc n * 70) buffer
-
-      long : length front ≡ n * 70
-      long = length-take-le (n * 70) buffer (omega (arith, suc-mul n 70))
-
-  -- the last three
-  pub last-put : (line : List ℕ) (x y z : ℕ) → length line ≡ 70
-      → set (set (set (putBytes buffer n line) (n * 70 + 67) x) (n * 70 + 68) y) (n * 70 + 69) z
-      ≡ putBytes buffer n (sets line 67 (x ∷ y ∷ z ∷ []))
-  last-put line x y z e =
-      ap (λ (b : List ℕ). set (set b (n * 70 + 68) y) (n * 70 + 69) z) (byte-put line 67 x e (omega arith))
-      ∙ ap (λ (b : List ℕ). set b (n * 70 + 69) z)
-      (byte-put (set line 67 x) 68 y (length-set line 67 x ∙ e) (omega arith))
-      ∙ byte-put (set (set line 67 x) 68 y) 69 z (length-set (set line 67 x) 68 y ∙ length-set line 67 x ∙ e) (omega arith)

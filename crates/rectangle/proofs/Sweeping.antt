@@ -124,7 +124,7 @@ module _ (rows columns : ℕ) (lines rowSums columnSums : List ℕ) (first r : �
         omega (arith, s .rowRoom)
 
     -- and its columns' sums have spare bits 0
-    pub row-unswept : (piece : List ℕ) → length piece ≡ 32 * 70 → RowUnswept lines first columns piece columnSums
+    pub row-unswept : (piece : List ℕ) → length piece ≡ 8 * 70 → RowUnswept lines first columns piece columnSums
     row-unswept piece room =
         record {
           inside = row-in .1;

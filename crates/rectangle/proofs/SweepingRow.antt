@@ -13,7 +13,7 @@ use Rattle.linecode.specs.Code.{upFrom}
 use Rattle.linecode.proofs.Line.{length-lineOf}
 use Rattle.rectangle.specs.Store.{bytesAt, placesAt, aloneAt}
 use Rattle.rectangle.specs.Refusals.{acceptedAt}
-use Rattle.rectangle.specs.Sweep.{PieceRead, withLines, PieceAdded, RowUnswept, RowSwept}
+use Rattle.rectangle.specs.Sweep.{withLines, LinesAdded, PieceSummed, RowUnswept, RowSwept}
 use Rattle.rectangle.proofs.Members.{upFrom-bounds}
 use Rattle.rectangle.proofs.Alone.{seventy, length-alone}
 use Rattle.rectangle.proofs.Tests.{some-fails, every-from, from-every, fails-from}
@@ -23,7 +23,7 @@ use Rattle.rectangle.proofs.Pieces.{line-within}
 -- the loop: the first c lines of the row are summed
 pub record RowTurn (lines : List ℕ) (first columns : ℕ) (old piece sums line : List ℕ) (c : ℕ) : Type 0 where
   pub few : c ≤ columns
-  pub pieceRoom : length piece ≡ 32 * 70
+  pub pieceRoom : length piece ≡ 8 * 70
   pub kept : length sums ≡ length old
   pub accepted : (k : ℕ) → k < c → acceptedAt lines (first + k) ≡ true
   pub row : line ≡ lineOf (summed lines first 1 c)
@@ -57,34 +57,38 @@ module _ (lines : List ℕ) (first columns : ℕ) (piece₀ old : List ℕ) (u :
         let bytes : (first + c + count) * 70 ≤ (first + columns) * 70 = mul-le-mul-right 70 below in
         omega (arith, u .inside)
 
-    module _ (count : ℕ) (h : c + count ≤ columns) (piece′ : List ℕ) (all : Bool) (p : PieceRead lines (first + c) count piece′ all) where
+    module _ (count : ℕ) (h : c + count ≤ columns) (sums′ next : List ℕ) (all : Bool)
+        (p : PieceSummed lines (first + c) count c sums sums′ line next all) where
       -- a faulty line ends the row
-      pub row-faulty : all ≡ false → RowSwept lines first columns old sums line false
-      row-faulty e =
+      pub row-faulty : (given : List ℕ) → all ≡ false → RowSwept lines first columns old sums′ given false
+      row-faulty given e =
           let f = some-fails (acceptedAt lines) (upFrom (first + c) count) (sym (p .answer) ∙ e) in
           let b = upFrom-bounds (first + c) count (f .0) (f .1) in
           let at : first + (f .0 - first) ≡ f .0 = omega (arith, b .0) in
           record {
-            kept = t .kept;
+            kept = p .kept ∙ t .kept;
             answer = sym (fails-from (acceptedAt lines) first columns (f .0 - first) (omega (arith, b .0, b .1)) (ap (acceptedAt lines) at ∙ f .2));
             row = λ z. absurd (true≢false (sym z));
             added = λ z. absurd (true≢false (sym z));
           }
 
       -- accepted lines are added to both sums
-      module _ (e : all ≡ true) (sums′ next : List ℕ) (a : PieceAdded piece′ count c sums sums′ line next) where
+      module _ (e : all ≡ true) (piece′ : List ℕ) (room : length piece′ ≡ 8 * 70) where
+        a : LinesAdded (λ i. lineOf (aloneAt lines (first + c + i) .line)) count c sums sums′ line next
+        a = p .added e
+
         at : (i : ℕ) → first + c + i ≡ first + (c + i)
         at i = omega arith
 
-        read : (i : ℕ) → i < count → bytesAt piece′ i ≡ lineOf (aloneAt lines (first + (c + i)) .line)
-        read i j = p .read e i j ∙ ap (λ (n : ℕ). lineOf (aloneAt lines n .line)) (at i)
+        read : (i : ℕ) → lineOf (aloneAt lines (first + c + i) .line) ≡ lineOf (aloneAt lines (first + (c + i)) .line)
+        read i = ap (λ (n : ℕ). lineOf (aloneAt lines n .line)) (at i)
 
         -- the row's sum with one line more of the piece
         sum-next : (i : ℕ) → i < count → (sum : List ℕ) → sum ≡ lineOf (summed lines first 1 (c + i))
-            → xorBytes sum (bytesAt piece′ i) ≡ lineOf (summed lines first 1 (c + i + 1))
+            → xorBytes sum (lineOf (aloneAt lines (first + c + i) .line)) ≡ lineOf (summed lines first 1 (c + i + 1))
         sum-next i j sum q =
-            sum-turn lines first 1 (c + i) (first + (c + i)) sum (xorBytes sum (bytesAt piece′ i)) (omega arith) within q
-            (ap (xorBytes sum) (read i j)
+            sum-turn lines first 1 (c + i) (first + (c + i)) sum (xorBytes sum (lineOf (aloneAt lines (first + c + i) .line))) (omega arith) within q
+            (ap (xorBytes sum) (read i)
             ∙ clean-more sum (aloneAt lines (first + (c + i)) .line) (ap length q ∙ length-lineOf _)
             (clean-summed lines first 1 (c + i) sum (λ k b. within k (omega arith)) q)
             (length-alone lines (first + (c + i)) (line-in (c + i) (omega arith))))
@@ -92,13 +96,13 @@ module _ (lines : List ℕ) (first columns : ℕ) (piece₀ old : List ℕ) (u :
             within : (k : ℕ) → k < suc (c + i) → suc (first + k * 1) * 70 ≤ length lines
             within k b = let d : k < columns = omega arith in omega (arith, line-in k d)
 
-        summed-up : (i : ℕ) → i ≤ count → withLines piece′ line i ≡ lineOf (summed lines first 1 (c + i))
+        summed-up : (i : ℕ) → i ≤ count → withLines (λ k. lineOf (aloneAt lines (first + c + k) .line)) line i ≡ lineOf (summed lines first 1 (c + i))
         summed-up zero j = t .row ∙ ap (λ (k : ℕ). lineOf (summed lines first 1 k)) (nought c)
           where
             nought : (c : ℕ) → c ≡ c + 0
             nought c = omega arith
         summed-up (suc i) j =
-            sum-next i j (withLines piece′ line i) (summed-up i (omega arith))
+            sum-next i j (withLines (λ k. lineOf (aloneAt lines (first + c + k) .line)) line i) (summed-up i (omega arith))
             ∙ ap (λ (k : ℕ). lineOf (summed lines first 1 k)) (more c i)
           where
             more : (c i : ℕ) → c + i + 1 ≡ c + suc i
@@ -110,7 +114,7 @@ module _ (lines : List ℕ) (first columns : ℕ) (piece₀ old : List ℕ) (u :
         column i j =
             let below : c + i < columns = omega arith in
             a .added i j
-            ∙ ap₂ xorBytes (t .later (c + i) (omega arith) below) (read i j)
+            ∙ ap₂ xorBytes (t .later (c + i) (omega arith) below) (read i)
             ∙ clean-more (bytesAt old (c + i)) (aloneAt lines (first + (c + i)) .line)
             (seventy old (c + i) (line-within (c + i) 512 (length old) (omega (arith, u .high)) (omega (arith, u .room))))
             (u .clean (c + i) below) (length-alone lines (first + (c + i)) (line-in (c + i) below))
@@ -129,7 +133,7 @@ module _ (lines : List ℕ) (first columns : ℕ) (piece₀ old : List ℕ) (u :
         row-more =
             record {
               few = h;
-              pieceRoom = p .room;
+              pieceRoom = room;
               kept = a .kept ∙ t .kept;
               accepted = by-piece (λ k. acceptedAt lines (first + k) ≡ true) (t .accepted)
                   (λ i j. ap (acceptedAt lines) (sym (at i)) ∙ from-every (acceptedAt lines) (first + c) count (sym (p .answer) ∙ e) i j);

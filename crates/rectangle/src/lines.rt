@@ -1,12 +1,14 @@
 // Lines in a lent buffer. The functions of this module are public because the crates above go through them alone; each asks that
 // the line lies inside the buffer, which the entry points have tested.
 use linecode::place;
+use sweep::reading;
 ghost use mathlib.Core.Path.{_≡_};
 ghost use Prim.Native.Nat.{suc, _*_, _≤_};
 ghost use lib.ListN.{length};
 ghost use Rattle.linecode.specs.Places.{places, xorBytes};
 ghost use Rattle.linecode.specs.Entry.{reading};
-ghost use Rattle.sweep.specs.Table.{lineTable};
+ghost use Rattle.line_table.specs.Table.{lineTable};
+ghost use Rattle.sweep.specs.Sums.{bothSums};
 ghost use Rattle.rectangle.specs.Store.{bytesAt, putBytes};
 ghost use Rattle.rectangle.specs.Change.{addTo};
 
@@ -56,25 +58,27 @@ pub fn column_parity(column_table: &[u8], column: ColumnIndex) -> [u8; 70]
     line_at(column_table, c)
 }
 
-// Line n of a buffer as it reads alone, written as line m of another: its mark. An untouched line is copied straight from one buffer to the
-// other, and its last bytes are stored over the copy: a line patched on the stack and copied at once would make the processor wait.
-pub fn read_into(table: &[u64; 4096], found: &[u8], n: usize, out: &mut [u8], m: usize) -> u8
-    requires { ⌜ (now table ≡ lineTable) × (suc n * 70 ≤ length (now found)) × (suc m * 70 ≤ length (now out)) ⌝ }
+// Line n of a buffer, whose sums are known, as it reads alone, written as line m of another: its mark.
+pub fn read_into(
+    table: &[u64; 4096],
+    sums: u32,
+    found: &[u8],
+    n: usize,
+    out: &mut [u8],
+    m: usize,
+) -> u8
+    requires table { ⌜ now table ≡ lineTable ⌝ }
+    requires inside { ⌜ (suc n * 70 ≤ length (now found)) × (suc m * 70 ≤ length (now out)) ⌝ }
+    requires summed { ⌜ sums ≡ bothSums (places (bytesAt (now found) n)) ⌝ }
     ensures { λ r. ⌜ (now (out .exit) ≡ putBytes (now (out .entry)) m (reading (bytesAt (now (found .entry)) n) .line))
         × (r ≡ reading (bytesAt (now (found .entry)) n) .mark) ⌝ }
 {
-    let from = n * 70;
-    let sums = sweep::sums_in(table, &found[from..from + 70]);
     let line = line_at(found, n);
-    if sums.accepted {
+    if reading::is_untouched(line, sums) {
         put_line(out, m, line);
-        let at = m * 70;
-        out[at + 67] = line[67] % 128;
-        out[at + 68] = (sums.positions % 256) as u8;
-        out[at + 69] = (sums.positions / 256) as u8;
         return 0;
     }
-    let read = sweep::reading::read_hurt(table, line, sums.positions);
+    let read = reading::read_summed(table, line, sums);
     let corrected = read.line;
     put_line(out, m, corrected);
     read.mark

@@ -6,27 +6,55 @@ use crate::lines::put_row_parity;
 use crate::lines::read_into;
 use crate::sizes;
 use linecode::place;
+use sweep::reading;
 ghost use mathlib.Core.Path.{_≡_};
+ghost use mathlib.Core.Bool.{true};
 ghost use Prim.Native.Nat.{_+_, _*_, _≤_};
 ghost use lib.ListN.{length, take};
-ghost use Rattle.sweep.specs.Table.{lineTable};
-ghost use Rattle.rectangle.specs.Sweep.{PieceRead, PieceAdded, RowUnswept, RowSwept, Unswept, Swept};
+ghost use Rattle.line_table.specs.Table.{lineTable};
+ghost use Rattle.rectangle.specs.Store.{bytesAt};
+ghost use Rattle.rectangle.specs.Sweep.{PieceSums, PieceRead, LinesAdded, PieceSummed, RowUnswept, RowSwept, Unswept, Swept};
 ghost use Rattle.rectangle.specs.Tables.{TablesMade, makeTables};
 
-// The exclusive or of a row's lines, and whether all of them are accepted; where one is faulty, of the pieces before it, for no use.
+// The exclusive or of some lines, and whether all of them are accepted; where one is faulty, the line is for no use.
 struct RowSum {
     line: [u8; 70],
     accepted: bool,
 }
 
-// Lines read alone from line n on, each once, into the first lines of a piece: whether all are accepted. A faulty line ends it.
-fn read_piece(table: &[u64; 4096], lines: &[u8], n: usize, count: usize, piece: &mut [u8]) -> bool
-    requires { ⌜ (now table ≡ lineTable) × ((n + count) * 70 ≤ length (now lines)) × (count ≤ 32) × (length (now piece) ≡ 32 * 70) ⌝ }
-    ensures { λ r. ⌜ PieceRead (now (lines .entry)) n count (now (piece .exit)) r ⌝ }
+// Whether so many lines, from line n on, all read alone as they stand; their sums are known.
+fn all_untouched(lines: &[u8], n: usize, count: usize, sums: [u32; 8]) -> bool
+    requires inside { ⌜ (count ≤ 8) × ((n + count) * 70 ≤ length (now lines)) ⌝ }
+    requires summed { ⌜ PieceSums (now lines) n count sums ⌝ }
+    ensures { λ r. ⌜ (r ≡ true → PieceRead (now (lines .entry)) n count (λ i. bytesAt (now (lines .entry)) (n + i)) true) ⌝ }
 {
     let mut i = 0;
     while i < count {
-        let mark = read_into(table, lines, n + i, piece, i);
+        if !reading::is_untouched(line_at(lines, n + i), sums[i]) {
+            return false;
+        }
+        i += 1;
+    }
+    true
+}
+
+// So many lines, from line n on, read alone into the first lines of a piece: whether all are accepted. A faulty line ends it.
+fn read_piece(
+    table: &[u64; 4096],
+    lines: &[u8],
+    n: usize,
+    count: usize,
+    sums: [u32; 8],
+    piece: &mut [u8],
+) -> bool
+    requires table { ⌜ now table ≡ lineTable ⌝ }
+    requires inside { ⌜ (count ≤ 8) × ((n + count) * 70 ≤ length (now lines)) × (length (now piece) ≡ 8 * 70) ⌝ }
+    requires summed { ⌜ PieceSums (now lines) n count sums ⌝ }
+    ensures { λ r. ⌜ PieceRead (now (lines .entry)) n count (bytesAt (now (piece .exit))) r ⌝ }
+{
+    let mut i = 0;
+    while i < count {
+        let mark = read_into(table, sums[i], lines, n + i, piece, i);
         if mark == 4 {
             return false;
         }
@@ -35,22 +63,24 @@ fn read_piece(table: &[u64; 4096], lines: &[u8], n: usize, count: usize, piece: 
     true
 }
 
-// Each line of a piece added to the row's sum, which is returned, and to its column's, from column c on. Lines read alone have spare
-// bits 0, and so have these sums, so that whole bytes are added.
-fn add_piece(
-    piece: &[u8],
+// So many lines of a buffer, from line n on, each added to the row's sum, which is returned, and to its column's, from column c on. Lines
+// read alone have spare bits 0, and so have these sums, so that whole bytes are added.
+fn add_lines(
+    buffer: &[u8],
+    n: usize,
     count: usize,
     c: usize,
     sum: [u8; 70],
     column_sums: &mut [u8],
 ) -> [u8; 70]
-    requires { ⌜ (count ≤ 32) × (length (now piece) ≡ 32 * 70) × (c + count ≤ 512) × (length (now «column_sums») ≡ 512 * 70) ⌝ }
-    ensures { λ r. ⌜ PieceAdded (now (piece .entry)) count c (now («column_sums» .entry)) (now («column_sums» .exit)) sum r ⌝ }
+    requires { ⌜ ((n + count) * 70 ≤ length (now buffer)) × (c + count ≤ 512) × (length (now «column_sums») ≡ 512 * 70) ⌝ }
+    ensures { λ r. ⌜ LinesAdded (λ i. bytesAt (now (buffer .entry)) (n + i)) count c (now («column_sums» .entry))
+        (now («column_sums» .exit)) sum r ⌝ }
 {
     let mut total = sum;
     let mut i = 0;
     while i < count {
-        let line = line_at(piece, i);
+        let line = line_at(buffer, n + i);
         let next = place::xor_bytes(total, line);
         total = next;
         add_line(column_sums, c + i, line);
@@ -59,8 +89,45 @@ fn add_piece(
     total
 }
 
+// So many lines, from line n on, read alone and added to the row's sum and to their columns'. Lines that read as they stand are added from
+// where they are; only a piece with another one is read into room of its own.
+fn sum_piece(
+    table: &[u64; 4096],
+    lines: &[u8],
+    n: usize,
+    count: usize,
+    c: usize,
+    sum: [u8; 70],
+    piece: &mut [u8],
+    column_sums: &mut [u8],
+) -> RowSum
+    requires table { ⌜ now table ≡ lineTable ⌝ }
+    requires inside { ⌜ (count ≤ 8) × ((n + count) * 70 ≤ length (now lines)) × (length (now piece) ≡ 8 * 70) ⌝ }
+    requires room { ⌜ (c + count ≤ 512) × (length (now «column_sums») ≡ 512 * 70) ⌝ }
+    ensures { λ r. ⌜ PieceSummed (now (lines .entry)) n count c (now («column_sums» .entry)) (now («column_sums» .exit)) sum
+        (r .line) (r .accepted) ⌝ }
+{
+    let sums = sweep::sums_of_lines(table, lines, n, count);
+    if all_untouched(lines, n, count, sums) {
+        return RowSum {
+            line: add_lines(lines, n, count, c, sum, column_sums),
+            accepted: true,
+        };
+    }
+    if !read_piece(table, lines, n, count, sums, piece) {
+        return RowSum {
+            line: sum,
+            accepted: false,
+        };
+    }
+    RowSum {
+        line: add_lines(piece, 0, count, c, sum, column_sums),
+        accepted: true,
+    }
+}
+
 // Each line of a row read alone, once, and added to the row's sum and to its column's. A faulty line ends it. It goes by pieces of at most
-// 32 lines, all read and then all added: a line added right after its last bytes were stored would make the processor wait for them.
+// eight lines, all summed and then all added: so the processor works on several lines at a time, and finds them near when it adds them.
 fn sum_row(
     table: &[u64; 4096],
     lines: &[u8],
@@ -78,17 +145,18 @@ fn sum_row(
     let mut c = 0;
     while c < columns {
         let mut count = columns - c;
-        if 32 < count {
-            count = 32;
+        if 8 < count {
+            count = 8;
         }
-        if !read_piece(table, lines, first + c, count, piece) {
+        let next = sum_piece(table, lines, first + c, count, c, sum, piece, column_sums);
+        if !next.accepted {
             return RowSum {
                 line: sum,
                 accepted: false,
             };
         }
-        let next = add_piece(piece, count, c, sum, column_sums);
-        sum = next;
+        let line = next.line;
+        sum = line;
         c += count;
     }
     RowSum {
@@ -111,8 +179,8 @@ fn sweep(
     requires unswept { ⌜ Unswept rows columns (now lines) (now «row_sums») (now «column_sums») ⌝ }
     ensures { λ r. ⌜ Swept rows columns (now (lines .entry)) (now («row_sums» .exit)) (now («column_sums» .exit)) r ⌝ }
 {
-    // Room for 32 lines, zeroed once and not for each row, since a row may have two lines only.
-    let mut piece = [0u8; 2240];
+    // Room for eight lines, zeroed once and not for each row, since a row may have two lines only.
+    let mut piece = [0u8; 560];
     let mut first = 0;
     let mut r = 0;
     while r < rows {
@@ -165,7 +233,7 @@ pub fn make_tables(
     // Refusal 10 writes nothing and is known after the last line only, so the sums are made apart: 512 lines of 70 bytes each.
     let mut row_sums = [0u8; 35840];
     let mut column_sums = [0u8; 35840];
-    let table = sweep::table::lent();
+    let table = line_table::lent();
     if !sweep(
         &table,
         rows,

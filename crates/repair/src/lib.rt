@@ -12,7 +12,7 @@ ghost use Rattle.scheme.specs.Visit.{State};
 ghost use Rattle.scheme.specs.Repair.{answer};
 ghost use Rattle.rectangle.specs.Refusals.{repairRefusal};
 ghost use Rattle.rectangle.specs.Repair.{StoreRepaired, repairStore};
-ghost use Rattle.sweep.specs.Table.{lineTable};
+ghost use Rattle.line_table.specs.Table.{lineTable};
 ghost use Rattle.mending.specs.Lent.{Rectangular, Tracked};
 ghost use Rattle.repair.specs.Lent.{allGroups, Finished};
 use mending::group;
@@ -117,7 +117,7 @@ pub fn repair(
         (record { answer = r .answer; passes = r .passes; lines = now (out .exit); marks = now (marks .exit) })
         (repairStore rows columns (now (lines .entry)) (now («row_table» .entry)) (now («column_table» .entry)) (now (out .entry)) (now (marks .entry))) ⌝ }
 {
-    let table = sweep::table::lent();
+    let table = line_table::lent();
     let turned_back = refusal(
         &table,
         rows,

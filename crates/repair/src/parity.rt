@@ -7,7 +7,7 @@ ghost use Rattle.linecode.specs.Places.{lineOf};
 ghost use Rattle.linecode.specs.Code.{upFrom, isCorrect};
 ghost use Rattle.rectangle.specs.Store.{placesAt, bytesAt};
 ghost use Rattle.rectangle.specs.Refusals.{every};
-ghost use Rattle.sweep.specs.Table.{lineTable};
+ghost use Rattle.line_table.specs.Table.{lineTable};
 use linecode::place;
 use rectangle::lines;
 use rectangle::lines::ColumnIndex;

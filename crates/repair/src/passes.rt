@@ -4,7 +4,7 @@ ghost use mathlib.Core.Path.{_≡_};
 ghost use Rattle.scheme.specs.Layer.{readLine};
 ghost use Rattle.scheme.specs.Repair.{pass};
 ghost use Rattle.rectangle.specs.Store.{lineLayer};
-ghost use Rattle.sweep.specs.Table.{lineTable};
+ghost use Rattle.line_table.specs.Table.{lineTable};
 ghost use Rattle.mending.specs.Lent.{Ready, Makes};
 ghost use Rattle.repair.specs.Lent.{allGroups, RanPasses};
 use mending::group;

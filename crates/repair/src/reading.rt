@@ -8,7 +8,7 @@ ghost use Rattle.gf2.specs.Word.{Word};
 ghost use Rattle.scheme.specs.Layer.{readLine};
 ghost use Rattle.scheme.specs.Repair.{readAll};
 ghost use Rattle.rectangle.specs.Store.{lineLayer, linesIn};
-ghost use Rattle.sweep.specs.Table.{lineTable};
+ghost use Rattle.line_table.specs.Table.{lineTable};
 ghost use Rattle.mending.specs.Lent.{Room, Tracked, Carried};
 ghost use Rattle.repair.specs.Lent.{readFirst, Begun, RowOpen, Piece, SomePiece, ReadUpTo, ReadsOn};
 use linecode::place;
@@ -21,7 +21,7 @@ pub struct OpenRow {
     pub faulty: u16,
 }
 
-// Lines n to n + count are read alone into the line buffer, their marks into the mark buffer.
+// So many lines, at most eight, from line n on are read alone into the line buffer, their marks into the mark buffer.
 pub fn read_piece(
     table: &[u64; 4096],
     found: &[u8],
@@ -31,14 +31,15 @@ pub fn read_piece(
     count: usize,
 )
     requires table { ⌜ now table ≡ lineTable ⌝ }
-    requires inside { ⌜ (n + count ≤ length (now marks)) × (length (now marks) ≤ 262144) × (length (now found) ≡ length (now marks) * 70) × (length (now out) ≡ length (now marks) * 70) ⌝ }
+    requires inside { ⌜ (n + count ≤ length (now marks)) × (length (now marks) ≤ 262144) × (length (now found) ≡ length (now marks) * 70) × (length (now out) ≡ length (now marks) * 70) × (count ≤ 8) ⌝ }
     ensures { λ _. ⌜ (Begun (now (out .entry)) (now (marks .entry)) (readFirst (now (found .entry)) n)
         → Begun (now (out .exit)) (now (marks .exit)) (readFirst (now (found .entry)) (n + count))) ⌝ }
 {
+    let sums = sweep::sums_of_lines(table, found, n, count);
     let mut i = 0;
     while i < count {
         let m = n + i;
-        let mark = lines::read_into(table, found, m, out, m);
+        let mark = lines::read_into(table, sums[i], found, m, out, m);
         marks[m] = mark;
         i += 1;
     }
@@ -86,16 +87,16 @@ pub fn add_piece(
 // How many lines make a piece, of those left in the row.
 fn piece(left: usize) -> usize
     requires { ⌜ 0 < left ⌝ }
-    ensures { λ r. ⌜ (0 < r) × (r ≤ left) ⌝ }
+    ensures { λ r. ⌜ (0 < r) × (r ≤ left) × (r ≤ 8) ⌝ }
 {
-    if 32 < left {
-        return 32;
+    if 8 < left {
+        return 8;
     }
     left
 }
 
-// Row r, in pieces: a line that is read back right after some of its bytes were written anew stalls the processor, so the lines of a
-// piece are added when all of them are read.
+// Row r, in pieces, each of whose lines are all summed, then all copied, then all added: so the processor works on several lines at a
+// time, and a piece is no longer than the stores that may wait for the line buffer's memory.
 pub fn read_row(
     table: &[u64; 4096],
     found: &[u8],

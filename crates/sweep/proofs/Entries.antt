@@ -17,7 +17,7 @@ use Rattle.register.proofs.Bytes.{Bytes}
 use Rattle.register.proofs.Slicing.{eight-lt, times, late, after-lt, after-append, after-sixteen, after-zero, after-apart}
 use Rattle.register.proofs.TableRule.{getD-upFrom, getD-map, length-upFrom, entry-at, entryOf}
 use Rattle.linecode.specs.Places.{bitsOf}
-use Rattle.sweep.specs.Table.{fields, fieldsAt, beside, lineTable}
+use Rattle.line_table.specs.Table.{fields, fieldsAt, beside, lineTable}
 use Rattle.sweep.specs.Sums.{Summed}
 use Rattle.sweep.proofs.Columns.{add-shr, add-mod, additive-late, sum-none, sum-split}
 

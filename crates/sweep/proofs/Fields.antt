@@ -19,10 +19,10 @@ use Rattle.linecode.specs.Code.{positions, hammingColumns, protected, dataOf, s
 use Rattle.linecode.proofs.Bytes.{Bytes, length-bitsOf, bitsOf-append}
 use Rattle.linecode.proofs.Line.{dataOf-line}
 use Rattle.linecode.proofs.Stores.{length-storedCrc, protected-parts, storedCrc-number}
-use Rattle.sweep.specs.Table.{field, fields}
+use Rattle.line_table.specs.Table.{field, fields}
 use Rattle.sweep.specs.Sums.{atFirst, atSecond, atThird, atFourth, atLast}
 use Rattle.sweep.proofs.Columns.{Additive, add-shr, add-and, add-xor, additive-sum, sum-first}
-use Rattle.sweep.proofs.TableRule.{fieldNumbers, fields-are}
+use Rattle.line_table.proofs.TableRule.{fieldNumbers, fields-are}
 
 -- ---- each block's positions come out of its fields, by one computed test
 abbrev fromFields : List ℕ → List ℕ

@@ -1,5 +1,5 @@
 pub mod Columns
-pub mod TableRule
 pub mod Entries
 pub mod Fields
 pub mod Summing
+pub mod BothSums

@@ -1,12 +1,16 @@
 -- What sixteen bytes of a line come to, by the table.
 use mathlib.Core.Path.{_≡_}
 use mathlib.Core.List.{List}
-use Prim.Native.Nat.{ℕ, _/_, _%_, _^_}
+use mathlib.Core.Bool.{cond}
+use Prim.Native.Nat.{ℕ, _+_, _*_, _/_, _%_, _^_}
 use lib.Bits.{bitAnd, bitXor}
+use lib.ListN.{take, drop}
+use Rattle.gf2.specs.Word.{Word}
 use Rattle.gf2.specs.Check.{columnSum}
 use Rattle.register.specs.Slices.{after}
 use Rattle.linecode.specs.Places.{bitsOf}
-use Rattle.sweep.specs.Table.{fields}
+use Rattle.linecode.specs.Code.{positions, protected, accepted}
+use Rattle.line_table.specs.Table.{fields}
 
 -- n is the sum of the entries of some bytes: the register after them, and above it the sum of their fields
 pub record Summed (bytes : List ℕ) (n : ℕ) : Type 0 where
@@ -30,3 +34,12 @@ atFourth x =
 
 abbrev pub atLast : ℕ → ℕ
 atLast x = bitXor (bitAnd (x / 2 ^ 17) 255) (bitAnd (x / 2 ^ 16) 512)
+
+-- line n of a buffer
+abbrev pub lineAt : List ℕ → ℕ → List ℕ
+lineAt buffer n = take 70 (drop (n * 70) buffer)
+
+-- both sums of a line in one number: the exclusive or of the positions of its set protected places, which are its Hamming bits, and
+-- 65536 more where its protected word is not divisible
+unfoldable pub bothSums : Word → ℕ
+bothSums w = columnSum positions (protected w) + cond (accepted w) 0 65536

@@ -1,27 +1,19 @@
 // Many lines: both sums of a line, for its CRC and for its Hamming bits, from one table that the entry point lends.
 // Public for the crates above, which bind the table once; what these functions ask, their entry points have made.
 pub mod reading;
-pub mod table;
 
 use register::words;
 ghost use mathlib.Core.Path.{_≡_};
 ghost use mathlib.Core.List.{List, [], _∷_, _++_};
-ghost use Prim.Native.Nat.{ℕ, _*_, _/_, _%_, _^_, _<_};
+ghost use Prim.Native.Nat.{ℕ, _+_, _*_, _/_, _%_, _^_, _≤_, _<_};
 ghost use lib.Bits.{bitXor};
 ghost use lib.ListN.{length, take, drop, getD};
 ghost use Rattle.gf2.specs.Word.{digits};
 ghost use Rattle.gf2.specs.Check.{columnSum};
 ghost use Rattle.register.specs.Slices.{after};
 ghost use Rattle.linecode.specs.Places.{places};
-ghost use Rattle.linecode.specs.Code.{protected, positions, accepted};
-ghost use Rattle.sweep.specs.Table.{fields, lineTable};
-ghost use Rattle.sweep.specs.Sums.{Summed, atFirst, atSecond, atThird, atFourth, atLast};
-
-// Whether a line's protected word is divisible, and the exclusive or of the positions of its set protected places: its Hamming bits.
-pub struct Sums {
-    pub accepted: bool,
-    pub positions: u16,
-}
+ghost use Rattle.line_table.specs.Table.{fields, lineTable};
+ghost use Rattle.sweep.specs.Sums.{Summed, atFirst, atSecond, atThird, atFourth, atLast, lineAt, bothSums};
 
 // The entries of sixteen bytes, added.
 fn block(
@@ -142,11 +134,10 @@ fn positions_from(x0: u64, x1: u64, x2: u64, x3: u64, c: u64) -> u64
     (x0 & 255) ^ (((x1 >> 8) & 511) ^ (((x2 >> 17) & 511) ^ (fourth ^ last)))
 }
 
-// Both sums of a line that stands in a buffer: its bytes are read there, and not copied.
-pub fn sums_in(table: &[u64; 4096], line: &[u8]) -> Sums
+// Both sums of a line that stands in a buffer, in one number: its bytes are read there, and not copied.
+fn sums_in(table: &[u64; 4096], line: &[u8]) -> u32
     requires { ⌜ (now table ≡ lineTable) × (length (now line) ≡ 70) ⌝ }
-    ensures { λ r. ⌜ (r .accepted ≡ accepted (places (now (line .entry))))
-        × (r .positions ≡ columnSum positions (protected (places (now (line .entry))))) ⌝ }
+    ensures { λ r. ⌜ r ≡ bothSums (places (now (line .entry))) ⌝ }
 {
     let sums = blocks(table, line);
     let a0 = sums[0];
@@ -155,18 +146,35 @@ pub fn sums_in(table: &[u64; 4096], line: &[u8]) -> Sums
     let a3 = sums[3];
     let stored = words::half(line[64], line[65], line[66], line[67] % 128);
     let c = carried(table, 2 * stored);
-    let bits = positions_from(a0 >> 32, a1 >> 32, a2 >> 32, a3 >> 32, c >> 32);
+    let positions = positions_from(a0 >> 32, a1 >> 32, a2 >> 32, a3 >> 32, c >> 32) as u32;
     let crc = crc_of(table, a0, a1, a2, a3);
-    Sums {
-        accepted: crc == stored,
-        positions: bits as u16,
+    if crc == stored {
+        return positions;
     }
+    65536 + positions
+}
+
+// Both sums of so many lines of a buffer, at most eight, from line n on. All lines that are read with the lent table pass here: so the loop
+// is the one place that sums a line, and LLVM puts the sum into it.
+pub fn sums_of_lines(table: &[u64; 4096], buffer: &[u8], n: usize, count: usize) -> [u32; 8]
+    requires { ⌜ (now table ≡ lineTable) × (count ≤ 8) × ((n + count) * 70 ≤ length (now buffer)) ⌝ }
+    ensures { λ r. ⌜ ((i : ℕ) → i < count → getD r i 0 ≡ bothSums (places (lineAt (now (buffer .entry)) (n + i)))) ⌝ }
+{
+    let mut sums = [0u32; 8];
+    let mut i = 0;
+    while i < count {
+        let at = (n + i) * 70;
+        sums[i] = sums_in(table, &buffer[at..at + 70]);
+        i += 1;
+    }
+    sums
 }
 
 // Both sums of a line.
-pub fn sums_of(table: &[u64; 4096], line: [u8; 70]) -> Sums
+pub fn sums_of(table: &[u64; 4096], line: [u8; 70]) -> u32
     requires { ⌜ now table ≡ lineTable ⌝ }
-    ensures { λ r. ⌜ (r .accepted ≡ accepted (places line)) × (r .positions ≡ columnSum positions (protected (places line))) ⌝ }
+    ensures { λ r. ⌜ r ≡ bothSums (places line) ⌝ }
 {
-    sums_in(table, &line)
+    let sums = sums_of_lines(table, &line, 0, 1);
+    sums[0]
 }

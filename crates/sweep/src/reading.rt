@@ -6,15 +6,17 @@ use linecode::hamming;
 use linecode::hamming::Answer;
 use linecode::place;
 ghost use mathlib.Core.Path.{_≡_};
-ghost use mathlib.Core.Bool.{false};
+ghost use mathlib.Core.Bool.{true, false};
+ghost use lib.Dec.{eqb};
 ghost use Rattle.gf2.specs.Check.{columnSum};
 ghost use Rattle.linecode.specs.Places.{places};
 ghost use Rattle.linecode.specs.Code.{protected, positions, accepted, isCorrect};
 ghost use Rattle.linecode.specs.Entry.{reading};
-ghost use Rattle.sweep.specs.Table.{lineTable};
+ghost use Rattle.line_table.specs.Table.{lineTable};
+ghost use Rattle.sweep.specs.Sums.{bothSums};
 
 // A line whose protected word is not divisible, with the sum of its positions: the corrector, then the CRC compared once more.
-pub fn read_hurt(table: &[u64; 4096], line: [u8; 70], sum: u16) -> Reading
+fn read_hurt(table: &[u64; 4096], line: [u8; 70], sum: u16) -> Reading
     requires table { ⌜ now table ≡ lineTable ⌝ }
     requires hurt { ⌜ accepted (places line) ≡ false ⌝ }
     requires summed { ⌜ sum ≡ columnSum positions (protected (places line)) ⌝ }
@@ -28,9 +30,9 @@ pub fn read_hurt(table: &[u64; 4096], line: [u8; 70], sum: u16) -> Reading
     };
     let flipped = place::flip_place(line, i);
     let again = sums_of(table, flipped);
-    if again.accepted {
+    if again < 65536 {
         return Reading {
-            line: hamming::with_bits(flipped, again.positions),
+            line: hamming::with_bits(flipped, again as u16),
             mark: 1,
         };
     }
@@ -40,19 +42,38 @@ pub fn read_hurt(table: &[u64; 4096], line: [u8; 70], sum: u16) -> Reading
     }
 }
 
-// A line read alone: the CRC compared, and where it differs the corrector.
+// A line whose sums are known, read alone: accepted, or else the corrector.
+pub fn read_summed(table: &[u64; 4096], line: [u8; 70], sums: u32) -> Reading
+    requires { ⌜ (now table ≡ lineTable) × (sums ≡ bothSums (places line)) ⌝ }
+    ensures { λ r. ⌜ r ≡ reading line ⌝ }
+{
+    if sums < 65536 {
+        return Reading {
+            line: hamming::with_bits(line, sums as u16),
+            mark: 0,
+        };
+    }
+    read_hurt(table, line, (sums - 65536) as u16)
+}
+
+// A line read alone.
 pub fn read(table: &[u64; 4096], line: [u8; 70]) -> Reading
     requires { ⌜ now table ≡ lineTable ⌝ }
     ensures { λ r. ⌜ r ≡ reading line ⌝ }
 {
-    let sums = sums_of(table, line);
-    if sums.accepted {
-        return Reading {
-            line: hamming::with_bits(line, sums.positions),
-            mark: 0,
-        };
+    read_summed(table, line, sums_of(table, line))
+}
+
+// Whether a line whose sums are known reads alone as it stands, with mark 0: its word divisible, its Hamming bits right, its spare bits 0.
+// Nearly every line does, and then it is copied whole: bytes stored over the copy would make the processor wait.
+pub fn is_untouched(line: [u8; 70], sums: u32) -> bool
+    requires { ⌜ sums ≡ bothSums (places line) ⌝ }
+    ensures { λ r. ⌜ (r ≡ true → reading line ≡ record { line = line; mark = 0 }) ⌝ }
+{
+    if line[67] < 128 {
+        return sums == (line[68] as u32) + 256 * (line[69] as u32);
     }
-    read_hurt(table, line, sums.positions)
+    false
 }
 
 // Whether the places of a line are what writing its data gives.
@@ -60,9 +81,5 @@ pub fn is_correct(table: &[u64; 4096], line: [u8; 70]) -> bool
     requires { ⌜ now table ≡ lineTable ⌝ }
     ensures { λ r. ⌜ r ≡ isCorrect (places line) ⌝ }
 {
-    let sums = sums_of(table, line);
-    if sums.accepted {
-        return sums.positions == hamming::stored(line);
-    }
-    false
+    sums_of(table, line) == hamming::stored(line) as u32
 }

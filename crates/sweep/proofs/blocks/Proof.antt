@@ -2,7 +2,7 @@
 use mathlib.Core.Path.{_≡_, refl}
 use Prim.Native.Nat.{_-_}
 use native.Mathlib.Omega.{arith}
-use Rattle.sweep.specs.Table.{lineTable}
+use Rattle.line_table.specs.Table.{lineTable}
 use Rattle.sweep.proofs.Summing.{Blocks, blocks-start, blocks-next}
 use Rattle.sweep.proofs.blocks.Statement.{statement}
 use Rattle.sweep.proofs.blocks.Tie as tie

@@ -1,16 +1,20 @@
 -- `sweep::sums_in` meets its contract.
 use native.Mathlib.Omega.{arith}
-use mathlib.Core.Path.{_≡_, ap, _∙_}
+use mathlib.Core.Path.{_≡_, sym, ap, _∙_}
 use Prim.Native.Nat.{ℕ, _<_}
 use Rattle.gf2.specs.Word.{Word}
 use Rattle.gf2.specs.Check.{columnSum}
 use Rattle.register.specs.Slices.{after}
-use Rattle.linecode.specs.Code.{positions}
+use lib.Dec.{eqb}
+use Rattle.linecode.specs.Places.{places}
+use Rattle.linecode.specs.Code.{positions, protected, accepted}
 use Rattle.linecode.proofs.Positions.{position-sum-lt}
 use Rattle.linecode.proofs.CrcRegister.{crc-after}
 use Rattle.linecode.proofs.Codeword.{crc-agrees}
 use Rattle.sweep.proofs.Fields.{positions-sum, block-length, data-blocks, stored-lt, stored-number, all-bytes}
 use borrow.Author.Needs.{needs}
+use borrow.Author.Tests.{eq-eqb, ne-eqb}
+use Rattle.sweep.proofs.BothSums.{accepted-sums, refused-sums}
 use Rattle.sweep.proofs.sums_in.Statement.{statement}
 use Rattle.sweep.proofs.sums_in.Tie as tie
 
@@ -58,53 +62,61 @@ carried-requires c κs = search needs
 positions-from-requires : tie.Need-positions-from-requires
 positions-from-requires c κs = search needs
 
-crc-of-requires : tie.Need-crc-of-requires
-crc-of-requires c κs = search needs
+-- the sum of the positions
+summed : (c : tie.After-positions-from)
+    → c .positions-from .result
+    ≡ columnSum positions (protected (places (c .before .before .before .before .before .before .before .before .before .args .line .now)))
+summed c =
+    let at-carried = c .before in
+    let at-half = at-carried .before in
+    let at-blocks = at-half .before .before .before .before .before in
+    let start = at-blocks .before .before in
+    let l = start .args .line .now in
+    let whole = start .pre .1 in
+    let bytes = all-bytes l (λ (i : ℕ). omega (arith, at-blocks .before .shared-slice-known .given i)) in
+    let b = at-blocks .blocks2 .ensures in
+    let stored = stored-number l whole bytes (at-half .half .result) (at-half .half .ensures) in
+    c .positions-from .ensures
+    ∙ positions-sum l whole bytes _ _ _ _ _ (at-half .half .result)
+    (b 0 (omega arith) .above) (b 1 (omega arith) .above) (b 2 (omega arith) .above) (b 3 (omega arith) .above)
+    stored (at-carried .carried .ensures .1)
 
 -- ten bits fit the result
 sum-lt : (r : ℕ) (w : Word) → r ≡ columnSum positions w → r < 1024
 sum-lt r w e = let h = position-sum-lt w in omega arith
 
-cast-t37 : tie.Need-cast-t37
-cast-t37 c =
-    let at-positions = c .before in
-    let at-carried = at-positions .before in
-    let at-half = at-carried .before in
-    let at-blocks = at-half .before .before .before .before .before in
-    let start = at-blocks .before .before in
-    let l = start .args .line .now in
-    let whole = start .pre .1 in
-    let bytes = all-bytes l (λ (i : ℕ). omega (arith, at-blocks .before .shared-slice-known .given i)) in
-    let b = at-blocks .blocks2 .ensures in
-    let stored = stored-number l whole bytes (at-half .half .result) (at-half .half .ensures) in
-    omega (
-      arith,
-      sum-lt _ _ (at-positions .positions-from .ensures ∙ positions-sum l whole bytes _ _ _ _ _ (at-half .half .result)
-          (b 0 (omega arith) .above) (b 1 (omega arith) .above) (b 2 (omega arith) .above) (b 3 (omega arith) .above)
-          stored (at-carried .carried .ensures .1)),
-    )
+cast-positions : tie.Need-cast-positions
+cast-positions c = omega (arith, sum-lt _ _ (summed c))
 
-returns : tie.Need-returns
-returns c =
-    let at-positions = c .before in
-    let at-carried = at-positions .before in
-    let at-half = at-carried .before in
+crc-of-requires : tie.Need-crc-of-requires
+crc-of-requires c κs = search needs
+
+-- whether the CRC is the stored one
+agrees : (c : tie.After-crc-of) → let at-half = c .before .before .before in
+    eqb (c .crc-of .result) (at-half .half .result) ≡ accepted (places (at-half .before .before .before .before .before .before .before .args .line .now))
+agrees c =
+    let at-half = c .before .before .before in
     let at-blocks = at-half .before .before .before .before .before in
     let start = at-blocks .before .before in
     let l = start .args .line .now in
     let whole = start .pre .1 in
     let bytes = all-bytes l (λ (i : ℕ). omega (arith, at-blocks .before .shared-slice-known .given i)) in
     let b = at-blocks .blocks2 .ensures in
-    let stored = stored-number l whole bytes (at-half .half .result) (at-half .half .ensures) in
     let crc =
     c .crc-of .ensures _ _ _ _ (block-length l whole bytes 16 (omega arith)) (block-length l whole bytes 32 (omega arith))
     (block-length l whole bytes 48 (omega arith)) (b 0 (omega arith)) (b 1 (omega arith)) (b 2 (omega arith)) (b 3 (omega arith))
-    ∙ ap (after 0) (data-blocks l whole bytes) in (
-      crc-agrees l (c .crc-of .result) (at-half .half .result) whole (crc-after l (c .crc-of .result) whole crc) stored,
-      at-positions .positions-from .ensures ∙ positions-sum l whole bytes _ _ _ _ _ (at-half .half .result)
-          (b 0 (omega arith) .above) (b 1 (omega arith) .above) (b 2 (omega arith) .above) (b 3 (omega arith) .above)
-          stored (at-carried .carried .ensures .1),
-    )
+    ∙ ap (after 0) (data-blocks l whole bytes) in
+    crc-agrees l (c .crc-of .result) (at-half .half .result) whole (crc-after l (c .crc-of .result) whole crc)
+    (stored-number l whole bytes (at-half .half .result) (at-half .half .ensures))
+
+returns : tie.Need-returns
+returns c = accepted-sums _ _ (sym (agrees (c .before)) ∙ eq-eqb _ _ (c .if1 .taken)) (summed (c .before .before))
+
+add-result : tie.Need-add-result
+add-result c = omega (arith, sum-lt _ _ (summed (c .before .before)))
+
+returns-2 : tie.Need-returns-2
+returns-2 c = refused-sums _ _ (sym (agrees (c .before)) ∙ ne-eqb _ _ (c .if1 .left)) (summed (c .before .before))
 
 pub sums-in-spec : {M : Type 1} → statement M
 sums-in-spec =
@@ -123,6 +135,8 @@ sums-in-spec =
     mul-carried
     carried-requires
     positions-from-requires
+    cast-positions
     crc-of-requires
-    cast-t37
-    returns)
+    returns
+    add-result
+    returns-2)

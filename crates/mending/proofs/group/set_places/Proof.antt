@@ -8,7 +8,7 @@ use lib.ListN.{length}
 use Rattle.linecode.specs.Places.{places}
 use Rattle.linecode.proofs.Bytes.{array-length}
 use Rattle.linecode.proofs.Line.{places-is, length-places}
-use Rattle.mending.proofs.Places.{Listing, listing-start, listing-zero, listing-kept, listing-full, listing-clear, listing-past, listing-end, relist, relist-array}
+use Rattle.mending.proofs.Places.{Listing, listing-start, listing-zero, listing-busy, listing-kept, listing-full, listing-clear, listing-past, listing-end, relist, relist-array}
 use Rattle.mending.proofs.group.set_places.Statement.{statement}
 use Rattle.mending.proofs.group.set_places.Tie as tie
 
@@ -25,16 +25,22 @@ returns : tie.Need-returns Inv-loop μ-loop
 returns c =
     listing-zero (c .before .before .args .line) (array-length 70 (c .before .before .args .line) _ (c .before .before .good .0)) (sym (c .if1 .taken) ∙ c .before .is-zero .ensures)
 
+busy-bytes-requires : tie.Need-busy-bytes-requires Inv-loop μ-loop
+busy-bytes-requires c κs = search needs
+
+returns-2 : tie.Need-returns-2 Inv-loop μ-loop
+returns-2 c = listing-busy _ _ (c .if2 .taken) (c .before .busy-bytes .ensures)
+
 loop-holds : tie.Need-loop-holds Inv-loop μ-loop
 loop-holds c =
-    (omega arith, length-places (c .before .before .args .line) (array-length 70 (c .before .before .args .line) _ (c .before .before .good .0)) ∙ places-is, listing-start (places (c .before .before .args .line)))
+    (omega arith, length-places (c .before .before .before .before .args .line) (array-length 70 (c .before .before .before .before .args .line) _ (c .before .before .before .before .good .0)) ∙ places-is, listing-start (places (c .before .before .before .before .args .line)))
 
 is-set-requires : tie.Need-is-set-requires Inv-loop μ-loop
 is-set-requires c κs = search needs
 
-returns-2 : tie.Need-returns-2 Inv-loop μ-loop
-returns-2 c =
-    listing-full (places (c .before .before .before .before .before .before .before .args .line)) _ _ (c .before .before .before .before .loop .i) (c .before .before .before .before .loop .inv .2) (omega arith) (sym (c .before .before .is-set .ensures) ∙ c .before .if2 .taken) (c .if3 .taken)
+returns-3 : tie.Need-returns-3 Inv-loop μ-loop
+returns-3 c =
+    listing-full (places (c .before .before .before .before .before .before .before .before .before .args .line)) _ _ (c .before .before .before .before .loop .i) (c .before .before .before .before .loop .inv .2) (omega arith) (sym (c .before .before .is-set .ensures) ∙ c .before .if3 .taken) (c .if4 .taken)
 
 mul-at : tie.Need-mul-at Inv-loop μ-loop
 mul-at c = omega arith
@@ -54,7 +60,7 @@ loop-less c = omega (arith, c .after-place .ensures .0, c .after-place .ensures 
 loop-again : tie.Need-loop-again Inv-loop μ-loop
 loop-again c =
     let here = c .before .before .before .before .loop in
-    let w = places (c .before .before .before .before .before .before .before .args .line) in
+    let w = places (c .before .before .before .before .before .before .before .before .before .args .line) in
     let in-line : here .i < length w = omega arith in
     let bit = sym (c .before .before .is-set .ensures) in
     let next = c .after-place .ensures in (
@@ -68,12 +74,12 @@ loop-again c =
           (λ t.
           relist w _ _ _ _ (t .2)
           (relist-array w _ _ _ _ (t .1) (listing-clear w (here .at) (here .count) (here .i) (here .inv .2) in-line (bit ∙ t .0 .left))))
-          (c .before .if2 .came))
+          (c .before .if3 .came))
           (omega (arith, next .0)) (omega (arith, next .1, here .inv .1)) (λ k a b. next .2 k (omega arith) b),
     )
 
-returns-3 : tie.Need-returns-3 Inv-loop μ-loop
-returns-3 c = listing-end (places (c .before .before .before .before .args .line)) _ _ _ (c .before .loop .inv .2) (omega arith)
+returns-4 : tie.Need-returns-4 Inv-loop μ-loop
+returns-4 c = listing-end (places (c .before .before .before .before .before .before .args .line)) _ _ _ (c .before .loop .inv .2) (omega arith)
 
 pub set-places-spec : {M : Type 1} → statement M
 set-places-spec =
@@ -83,13 +89,15 @@ set-places-spec =
     μ-loop
     is-zero-requires
     returns
+    busy-bytes-requires
+    returns-2
     loop-holds
     is-set-requires
-    returns-2
+    returns-3
     mul-at
     array-write-at
     add-count
     after-place-requires
     loop-less
     loop-again
-    returns-3)
+    returns-4)

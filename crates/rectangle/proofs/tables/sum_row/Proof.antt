@@ -24,7 +24,7 @@ sub-count c = omega arith
 
 -- how many lines the piece of this turn has
 counted : (c : tie.Joined1 Inv-loop μ-loop)
-    → (0 < c .if1 .count) × (c .if1 .count ≤ 32) × (c .before .before .loop .c + c .if1 .count ≤ c .before .before .before .before .before .before .args .columns)
+    → (0 < c .if1 .count) × (c .if1 .count ≤ 8) × (c .before .before .loop .c + c .if1 .count ≤ c .before .before .before .before .before .before .args .columns)
 counted c = ⊎-elim (λ w. (omega arith, omega arith, omega arith)) (λ w. (omega arith, omega arith, omega arith)) (c .if1 .came)
 
 -- its lines lie inside the lines
@@ -36,43 +36,35 @@ inside c =
     piece-in _ _ _ _ _ (c .before .before .before .before .before .before .pre .1) (here .piece) (here .column-sums) (here .sum) (here .c)
     (here .inv) (c .if1 .count) (counted c .2)
 
-add-read-piece : tie.Need-add-read-piece Inv-loop μ-loop
-add-read-piece c = omega (arith, inside c)
+add-sum-piece : tie.Need-add-sum-piece Inv-loop μ-loop
+add-sum-piece c = omega (arith, inside c)
 
-read-piece-requires : tie.Need-read-piece-requires Inv-loop μ-loop
-read-piece-requires c κs =
-    let piece = c .before in
+sum-piece-requires : tie.Need-sum-piece-requires Inv-loop μ-loop
+sum-piece-requires c κs =
+    let piece = c .before .before in
     let at = piece .before .before in
-    (at .before .before .before .before .pre .0, inside piece, counted piece .1, at .loop .inv .pieceRoom)
+    let start = at .before .before .before .before in
+    (start .pre .0, ((counted piece .1, inside piece, at .loop .inv .pieceRoom), (omega (arith, counted piece .2, start .pre .1 .high), at .loop .inv .kept ∙ start .pre .1 .room)))
 
 same-length : tie.Need-same-length Inv-loop μ-loop
 same-length c =
-    let read = c .before .before .before in
-    read .read-piece .ensures .room ∙ sym (read .before .before .before .before .before .before .before .before .pre .1 .pieceRoom)
+    let summed = c .before .before .before .before .before .before in
+    let at = summed .before .before .before .before .before in
+    summed .sum-piece .kept .1 .1 .1 .1 .1 .1 .0 ∙ at .loop .inv .pieceRoom ∙ sym (at .before .before .before .before .pre .1 .pieceRoom)
 
 same-length-2 : tie.Need-same-length-2 Inv-loop μ-loop
-same-length-2 c = c .before .before .before .before .before .before .before .loop .inv .kept
+same-length-2 c =
+    let summed = c .before .before .before .before .before .before in
+    summed .sum-piece .ensures .kept ∙ summed .before .before .before .before .before .loop .inv .kept
 
 returns : tie.Need-returns Inv-loop μ-loop
 returns c =
-    let read = c .before .before .before in
-    let piece = read .before .before in
+    let summed = c .before .before .before .before .before .before in
+    let piece = summed .before .before .before in
     let at = piece .before .before in
     let here = at .loop in
     row-faulty _ _ _ _ _ (at .before .before .before .before .pre .1) (here .piece) (here .column-sums) (here .sum) (here .c) (here .inv)
-    (piece .if1 .count) (counted piece .2) _ (read .read-piece .result) (read .read-piece .ensures) (not-true _ (c .if2 .taken))
-
-add-piece-requires : tie.Need-add-piece-requires Inv-loop μ-loop
-add-piece-requires c κs =
-    let read = c .before .before .before .before .before in
-    let piece = read .before .before in
-    let at = piece .before .before in
-    let u = at .before .before .before .before .pre .1 in (
-      counted piece .1,
-      read .read-piece .ensures .room,
-      omega (arith, counted piece .2, u .high),
-      at .loop .inv .kept ∙ u .room,
-    )
+    (piece .if1 .count) (counted piece .2) _ _ _ (summed .sum-piece .ensures) _ (not-true _ (c .if2 .taken))
 
 add-c : tie.Need-add-c Inv-loop μ-loop
 add-c c = omega (arith, counted (c .before .before .before .before .before .before .before .before .before .before .before) .2)
@@ -84,15 +76,14 @@ loop-less c =
 
 loop-again : tie.Need-loop-again Inv-loop μ-loop
 loop-again c =
-    let added = c .before .before .before in
-    let accepted = added .before .before .before in
-    let read = accepted .before .before .before in
-    let piece = read .before .before in
+    let accepted = c .before .before in
+    let summed = accepted .before .before .before .before .before .before in
+    let piece = summed .before .before .before in
     let at = piece .before .before in
     let here = at .loop in
     row-more _ _ _ _ _ (at .before .before .before .before .pre .1) (here .piece) (here .column-sums) (here .sum) (here .c) (here .inv)
-    (piece .if1 .count) (counted piece .2) _ (read .read-piece .result) (read .read-piece .ensures) (not-false _ (accepted .if2 .left)) _ _
-    (added .add-piece .ensures)
+    (piece .if1 .count) (counted piece .2) _ _ _ (summed .sum-piece .ensures) (not-false _ (accepted .if2 .left)) _
+    (summed .sum-piece .kept .1 .1 .1 .1 .1 .1 .0 ∙ here .inv .pieceRoom)
 
 same-length-3 : tie.Need-same-length-3 Inv-loop μ-loop
 same-length-3 c = c .before .loop .inv .pieceRoom ∙ sym (c .before .before .before .before .before .pre .1 .pieceRoom)
@@ -114,12 +105,11 @@ sum-row-spec =
     μ-loop
     loop-holds
     sub-count
-    add-read-piece
-    read-piece-requires
+    add-sum-piece
+    sum-piece-requires
     same-length
     same-length-2
     returns
-    add-piece-requires
     add-c
     loop-less
     loop-again

@@ -11,7 +11,7 @@ use Rattle.rectangle.proofs.tables.sweep.Tie as tie
 
 abbrev Inv-loop : tie.InvT-loop
 Inv-loop table rows columns lines row-sums₀ column-sums₀ piece₀ first₀ r₀ row-sums column-sums piece first r =
-    Sweeping rows columns lines row-sums column-sums first r × (length piece ≡ 2240)
+    Sweeping rows columns lines row-sums column-sums first r × (length piece ≡ 560)
 
 abbrev μ-loop : tie.MeasureT-loop
 μ-loop table rows columns lines row-sums₀ column-sums₀ piece₀ first₀ r₀ row-sums column-sums piece first r = rows - r

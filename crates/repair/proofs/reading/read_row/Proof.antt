@@ -48,6 +48,7 @@ read-piece-requires c κs =
         omega (arith, mul-le-mul-right (a .columns) (room .rect .rowsHigh), room .rect .columnsHigh, room .rect .markBytes),
         omega (arith, c .before .before .before .before .before .before .before .before .before .before .before .before .before .pre .1 .1 .0 .0, room .rect .markBytes),
         omega (arith, room .rect .outBytes, room .rect .markBytes),
+        c .before .before .piece .ensures .2,
       ),
     )
 

@@ -4,14 +4,16 @@ use mathlib.Core.Path.{_≡_, sym, ap, ap₂, _∙_}
 use mathlib.Core.Bool.{Bool, true, false}
 use mathlib.Core.List.{List}
 use Prim.Native.Nat.{ℕ}
+use native.Mathlib.Omega.{arith}
 use lib.Bits.{bitXor}
 use Rattle.linecode.specs.Places.{places}
-use Rattle.linecode.specs.Code.{syndrome, answerTo}
+use Rattle.linecode.specs.Code.{accepted, syndrome, answerTo}
 use Rattle.linecode.specs.Reading.{afterFlip, readAlone}
 use Rattle.linecode.proofs.Bytes.{array-length}
 use Rattle.linecode.proofs.Line.{length-places}
 use Rattle.linecode.proofs.Syndrome.{syndrome-parts}
 use Rattle.linecode.proofs.ReadAlone.{unnamed, second-look, in-bytes}
+use Rattle.sweep.proofs.BothSums.{below, above}
 use Rattle.sweep.proofs.reading.read_hurt.Statement.{statement}
 use Rattle.sweep.proofs.reading.read_hurt.Tie as tie
 
@@ -52,7 +54,7 @@ sums-of-requires : tie.Need-sums-of-requires
 sums-of-requires c κs = search needs
 
 -- after the second look
-looked : (c : tie.After-sums-of) (t : Bool) → c .sums-of .result .accepted ≡ t
+looked : (c : tie.After-sums-of) (t : Bool) → accepted (places (c .before .flip-place .result)) ≡ t
     → let l = c .before .before .before .before .before .before .before .args .line in
     readAlone (places l) ≡ afterFlip t (places (c .before .flip-place .result)) (places l)
 looked c t e =
@@ -60,23 +62,28 @@ looked c t e =
     let start = named .before .before .before .before in
     let l = start .args .line in
     second-look l (c .before .flip-place .result) (named .i .given .0 .0) t (array-length 70 l _ (start .good .1 .0)) (start .pre .1 .0)
-    (answered (named .before .before) ∙ named .i .given .1) (c .before .flip-place .ensures) (sym (c .sums-of .ensures .0) ∙ e)
+    (answered (named .before .before) ∙ named .i .given .1) (c .before .flip-place .ensures) e
+
+cast-with-bits : tie.Need-cast-with-bits
+cast-with-bits c = omega arith
 
 with-bits-requires : tie.Need-with-bits-requires
-with-bits-requires c κs = search needs
+with-bits-requires c κs = below _ _ (c .before .sums-of .ensures) (c .if1 .taken) .1
 
 returns-2 : tie.Need-returns-2
 returns-2 c =
+    let again = c .before .before in
     ap (λ (x : List ℕ). record { line = x; mark = 1 }) (c .with-bits .ensures)
-    ∙ in-bytes _ _ (looked (c .before .before) true (c .before .if1 .taken))
+    ∙ in-bytes _ _ (looked again true (below _ _ (again .sums-of .ensures) (c .before .if1 .taken) .0))
 
 clear-spare-requires-2 : tie.Need-clear-spare-requires-2
 clear-spare-requires-2 c κs = search needs
 
 returns-3 : tie.Need-returns-3
 returns-3 c =
+    let again = c .before .before in
     ap (λ (x : List ℕ). record { line = x; mark = 4 }) (c .clear-spare2 .ensures)
-    ∙ in-bytes _ _ (looked (c .before .before) false (c .before .if1 .left))
+    ∙ in-bytes _ _ (looked again false (above _ _ (again .sums-of .ensures) (c .before .if1 .left) .0))
 
 pub read-hurt-spec : {M : Type 1} → statement M
 read-hurt-spec =
@@ -89,6 +96,7 @@ read-hurt-spec =
     returns
     flip-place-requires
     sums-of-requires
+    cast-with-bits
     with-bits-requires
     returns-2
     clear-spare-requires-2

@@ -12,7 +12,7 @@ use Rattle.register.specs.Slices.{upFrom, sliceTable}
 use Rattle.register.proofs.TableRule.{alike, alike-sound, isSliceTable, slice-table}
 use Rattle.linecode.specs.Places.{hammingPlaces}
 use Rattle.linecode.specs.Code.{positions, hammingColumns}
-use Rattle.sweep.specs.Table.{field, fields, fieldsAt, beside, lineTable}
+use Rattle.line_table.specs.Table.{field, fields, fieldsAt, beside, lineTable}
 
 -- the fields as numbers, so that the test of the table need not work them out again for each entry
 unfoldable pub fieldNumbers : List ℕ

@@ -1,4 +1,4 @@
--- `rectangle::tables::add_piece` meets its contract: after i turns the first i lines are added.
+-- `rectangle::tables::add_lines` meets its contract: after i turns the first i lines are added.
 use mathlib.Core.Path.{_≡_, ap, _∙_}
 use mathlib.Core.List.{List}
 use Prim.Native.Nat.{ℕ, suc, _+_, _-_, _*_, _≤_}
@@ -7,26 +7,28 @@ use borrow.Author.Needs.{needs}
 use lib.ListN.{length}
 use Rattle.linecode.specs.Places.{xorBytes}
 use Rattle.rectangle.specs.Store.{bytesAt, putBytes}
-use Rattle.rectangle.specs.Sweep.{PieceAdded}
-use Rattle.rectangle.proofs.Pieces.{line-within, adding-starts, sum-within, adding-more}
-use Rattle.rectangle.proofs.tables.add_piece.Statement.{statement}
-use Rattle.rectangle.proofs.tables.add_piece.Tie as tie
+use Rattle.rectangle.specs.Sweep.{LinesAdded}
+use Rattle.rectangle.proofs.Alone.{seventy}
+use Rattle.rectangle.proofs.Pieces.{nth-within, adding-starts, sum-within, adding-more}
+use Rattle.rectangle.proofs.tables.add_lines.Statement.{statement}
+use Rattle.rectangle.proofs.tables.add_lines.Tie as tie
 
 abbrev Inv-loop : tie.InvT-loop
-Inv-loop piece count c column-sums₀ total₀ i₀ column-sums total i =
-    (i ≤ count) × PieceAdded piece i c column-sums₀ column-sums total₀ total
+Inv-loop buffer n count c column-sums₀ total₀ i₀ column-sums total i = (i ≤ count) × LinesAdded (λ k. bytesAt buffer (n + k)) i c column-sums₀ column-sums total₀ total
 
 abbrev μ-loop : tie.MeasureT-loop
-μ-loop piece count c column-sums₀ total₀ i₀ column-sums total i = count - i
+μ-loop buffer n count c column-sums₀ total₀ i₀ column-sums total i = count - i
 
 loop-holds : tie.Need-loop-holds Inv-loop μ-loop
 loop-holds c = (omega arith, adding-starts _ _ _ _)
 
--- the line of this turn lies inside the piece
-held : (c : tie.In-loop Inv-loop μ-loop) → suc (c .before .loop .i) * 70 ≤ length (c .before .before .before .before .args .piece .now)
-held c =
-    let start = c .before .before .before .before in
-    line-within _ 32 _ (omega (arith, start .pre .0)) (omega (arith, start .pre .1))
+-- the line of this turn lies inside the buffer
+held : (c : tie.In-loop Inv-loop μ-loop)
+    → let a = c .before .before .before .before .args in suc (a .n + c .before .loop .i) * 70 ≤ length (a .buffer .now)
+held c = let start = c .before .before .before .before in nth-within _ _ _ _ (c .loop-test .taken) (start .pre .0)
+
+add-line-at : tie.Need-add-line-at Inv-loop μ-loop
+add-line-at c = omega (arith, held c)
 
 line-at-requires : tie.Need-line-at-requires Inv-loop μ-loop
 line-at-requires c κs = held c
@@ -42,8 +44,8 @@ add-line-requires c κs =
     let turn = c .before .before .before in
     let here = turn .before .loop in
     let start = turn .before .before .before .before in
-    sum-within (start .args .piece .now) (here .i) (start .args .c) (start .args .column-sums .now) (here .column-sums) (start .args .sum)
-    (here .total) (here .inv .1) (held turn) (start .pre .3) (omega (arith, start .pre .2))
+    sum-within _ (here .i) (start .args .c) (start .args .column-sums .now) (here .column-sums) (start .args .sum)
+    (here .total) (here .inv .1) (seventy _ _ (held turn)) (start .pre .2) (omega (arith, start .pre .1))
 
 add-i : tie.Need-add-i Inv-loop μ-loop
 add-i c = omega arith
@@ -61,8 +63,8 @@ loop-again c =
     let start = turn .before .before .before .before in
     let at = start .args .c + here .i in (
       omega arith,
-      adding-more _ _ _ _ (here .column-sums) (start .args .sum) (here .total) (here .inv .1) (held turn) (start .pre .3)
-          (omega (arith, start .pre .2)) _ _
+      adding-more _ _ _ _ (here .column-sums) (start .args .sum) (here .total) (here .inv .1) (seventy _ _ (held turn)) (start .pre .2)
+          (omega (arith, start .pre .1)) _ _
           (added .add-line .ensures
           ∙ ap (λ (l : List ℕ). putBytes (here .column-sums) at (xorBytes (bytesAt (here .column-sums) at) l)) (read .line-at .ensures))
           (summed .xor-bytes .ensures ∙ ap (xorBytes (here .total)) (read .line-at .ensures)),
@@ -78,13 +80,14 @@ returns c =
     let e : here .i ≡ start .args .count = omega arith in
     rw e at (here .inv .1)
 
-pub add-piece-spec : {M : Type 1} → statement M
-add-piece-spec =
+pub add-lines-spec : {M : Type 1} → statement M
+add-lines-spec =
     tie.close
     (tie.spec
     Inv-loop
     μ-loop
     loop-holds
+    add-line-at
     line-at-requires
     xor-bytes-requires
     add-add-line

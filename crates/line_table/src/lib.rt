@@ -1,7 +1,7 @@
 // The table that is lent, as it stands in memory: 4096 entries, 256 for each of sixteen bytes, the last byte's first.
 // Public for the entry points above, which bind it once: 32 KB, that only many lines amortise.
 ghost use mathlib.Core.Path.{_≡_};
-ghost use Rattle.sweep.specs.Table.{lineTable};
+ghost use Rattle.line_table.specs.Table.{lineTable};
 
 const TABLE: [u64; 4096] = [
     0,

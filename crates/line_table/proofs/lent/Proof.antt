@@ -1,8 +1,8 @@
--- `sweep::table::lent` meets its contract: the table's rule, computed.
+-- `line_table::lent` meets its contract: the table's rule, computed.
 use Rattle.gf2.specs.Generator.{generator, generatorPolynomial}
-use Rattle.sweep.proofs.TableRule.{fieldNumbers, line-table}
-use Rattle.sweep.proofs.table.lent.Statement.{statement}
-use Rattle.sweep.proofs.table.lent.Tie as tie
+use Rattle.line_table.proofs.TableRule.{fieldNumbers, line-table}
+use Rattle.line_table.proofs.lent.Statement.{statement}
+use Rattle.line_table.proofs.lent.Tie as tie
 
 returns : tie.Need-returns
 unfolding fieldNumbers generator generatorPolynomial

@@ -1,0 +1,48 @@
+-- `sweep::reading::read_summed` meets its contract: an accepted line is read here, any other as a hurt one.
+use mathlib.Core.Path.{ap, _∙_}
+use mathlib.Core.List.{List}
+use Prim.Native.Nat.{ℕ}
+use native.Mathlib.Omega.{arith}
+use Rattle.linecode.specs.Places.{places}
+use Rattle.linecode.specs.Code.{protected}
+use Rattle.linecode.proofs.Positions.{position-sum-lt}
+use Rattle.linecode.proofs.ReadAlone.{read-clean, in-bytes}
+use Rattle.sweep.proofs.BothSums.{below, above}
+use Rattle.sweep.proofs.reading.read_summed.Statement.{statement}
+use Rattle.sweep.proofs.reading.read_summed.Tie as tie
+use Rattle.linecode.proofs.hamming.with_bits.Reads as with-bits-reads
+use Rattle.sweep.proofs.reading.read_hurt.Reads as read-hurt-reads
+
+cast-with-bits : tie.Need-cast-with-bits
+cast-with-bits c = omega arith
+
+with-bits-requires : tie.Need-with-bits-requires
+with-bits-requires c κs = below _ _ (c .before .pre .1) (c .if1 .taken) .1
+
+returns : tie.Need-returns
+returns c =
+    let start = c .before .before in
+    ap (λ (x : List ℕ). record { line = x; mark = 0 }) (c .with-bits .ensures)
+    ∙ in-bytes (start .args .line) _ (read-clean _ (below _ _ (start .pre .1) (c .before .if1 .taken) .0))
+
+cast-read-hurt : tie.Need-cast-read-hurt
+cast-read-hurt c =
+    let h = position-sum-lt (protected (places (c .before .args .line))) in
+    omega (arith, above _ _ (c .before .pre .1) (c .if1 .left) .1)
+
+read-hurt-requires : tie.Need-read-hurt-requires
+read-hurt-requires c κs = (c .before .pre .0, above _ _ (c .before .pre .1) (c .if1 .left))
+
+returns-2 : tie.Need-returns-2
+returns-2 c = c .read-hurt .ensures
+
+pub read-summed-spec : {M : Type 1} → statement M
+read-summed-spec =
+    tie.close
+    (tie.spec
+    cast-with-bits
+    with-bits-requires
+    returns
+    cast-read-hurt
+    read-hurt-requires
+    returns-2)
