@@ -171,7 +171,7 @@ pub fn sums_of_lines(table: &[u64; 4096], buffer: &[u8], n: usize, count: usize)
 }
 
 // Both sums of a line.
-pub fn sums_of(table: &[u64; 4096], line: [u8; 70]) -> u32
+fn sums_of(table: &[u64; 4096], line: [u8; 70]) -> u32
     requires { ⌜ now table ≡ lineTable ⌝ }
     ensures { λ r. ⌜ r ≡ bothSums (places line) ⌝ }
 {
