@@ -68,13 +68,20 @@ copied s n e = go (decLe 70 (length s))
         ∙ take-append-add s blank (70 - length s)
         ∙ ap (λ (l : List ℕ). s ++ l) (take-replicate (70 - length s) 70 (omega arith)))
 
+-- the data bytes of what was loaded
+pub take-loaded : (s l : List ℕ) → 64 ≤ length s → l ≡ loaded s → take 64 l ≡ take 64 s
+unfolding loaded
+take-loaded s l h q =
+    ap (take 64) (q ∙ ap (λ (k : ℕ). take k (s ++ replicate k 0)) bytes-is)
+    ∙ take-take 64 70 (s ++ blank) (omega arith)
+    ∙ take-append-le 64 s blank h
+
 -- the data of a line loaded from 64 bytes
 pub data-loaded : (s l : List ℕ) → length s ≡ 64 → l ≡ loaded s → dataOf (places l) ≡ bitsOf s
 unfolding loaded
 data-loaded s l e q =
     dataOf-line l (ap length q ∙ length-take lineBytes (s ++ replicate lineBytes 0) ∙ long)
-    ∙ ap (λ (x : List ℕ). bitsOf (take 64 x)) (q ∙ ap (λ (k : ℕ). take k (s ++ replicate k 0)) bytes-is)
-    ∙ ap bitsOf (take-take 64 70 (s ++ blank) (omega arith) ∙ take-at s blank 64 e)
+    ∙ ap bitsOf (take-loaded s l (omega arith) q ∙ take-all 64 s (omega arith))
   where
     long : min lineBytes (length (s ++ replicate lineBytes 0)) ≡ 70
     long = omega (arith, length-append s (replicate lineBytes 0), length-replicate {A = ℕ} lineBytes 0, bytes-is)

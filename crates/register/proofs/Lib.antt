@@ -1,4 +1,4 @@
 pub mod Bytes
 pub mod Slicing
 pub mod TableRule
-pub mod Feeding
+pub mod Additive

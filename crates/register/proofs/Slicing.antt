@@ -1,9 +1,8 @@
 -- The CRC some bytes at a step: the register's number after them is an exclusive or of table entries, one for each byte.
 use mathlib.Core.Path.{_≡_, refl, sym, ap, ap₂, _∙_, subst}
-use mathlib.Core.Bool.{Bool}
-use mathlib.Core.List.{List, [], _∷_, _++_, map}
+use mathlib.Core.List.{List, [], _∷_, _++_}
 use Prim.Native.Nat.{ℕ, zero, suc, _+_, _*_, _/_, _%_, _^_, _≤_, _<_}
-use native.Mathlib.Nat.{not-suc-le-zero, le-of-suc-le-suc, zero-add, suc-add, add-suc, div-eq-of-lt, mod-eq-of-lt}
+use native.Mathlib.Nat.{mod-eq-of-lt}
 use native.Mathlib.Omega.{arith}
 use lib.Bits.{bitXor, xor-lt, xor-comm, xor-zero-l, xor-zero-r, xor-shr, xor-mod}
 use lib.ListN.{length}
@@ -14,7 +13,7 @@ use Rattle.gf2.specs.Generator.{generator}
 use Rattle.gf2.proofs.Crc.{zeros-xor}
 use Rattle.gf2.proofs.Digits.{length-digits, digits-number, digits-zero, digits-xor, number-lt, number-small, bitXor-assoc}
 use Rattle.gf2.proofs.Linear.{length-divide, divide-xor}
-use Rattle.gf2.proofs.Register.{feed, feed-append, feed-zeros, feed-digits}
+use Rattle.gf2.proofs.Register.{feed, feed-zeros, feed-digits}
 use Rattle.register.specs.Slices.{eightSteps, next, fed, after}
 use Rattle.register.proofs.Bytes.{Bytes}
 
@@ -38,7 +37,7 @@ pub eight-lt : (n : ℕ) → eightSteps n < 2 ^ 31
 eight-lt n =
     subst (λ (k : ℕ). eightSteps n < 2 ^ k) (length-eight n) (number-lt (divide generator (digits 31 n) (zeros 8)))
 
-eight-xor : (a b : ℕ) → eightSteps (bitXor a b) ≡ bitXor (eightSteps a) (eightSteps b)
+pub eight-xor : (a b : ℕ) → eightSteps (bitXor a b) ≡ bitXor (eightSteps a) (eightSteps b)
 eight-xor a b =
     digits-same 31 (eightSteps (bitXor a b)) (bitXor (eightSteps a) (eightSteps b)) (eight-lt (bitXor a b))
     (xor-lt 31 (eightSteps a) (eightSteps b) (eight-lt a) (eight-lt b))
@@ -132,20 +131,24 @@ late entry [] = 0
 late entry (b ∷ []) = entry 0 b
 late entry (b ∷ c ∷ bs) = bitXor (late entry (c ∷ bs)) (entry (suc (length bs)) b)
 
-fed-zero : (entry : ℕ → ℕ → ℕ) (n : ℕ) → ((k b : ℕ) → k < n → b < 256 → entry k b ≡ times (suc k) b)
-    → (bs : List ℕ) → length bs ≤ n → Bytes bs → fed 0 bs ≡ late entry bs
-fed-zero entry n rule [] h p = refl
-fed-zero entry n rule (b ∷ []) h p =
-    xor-zero-r (eightSteps (bitXor 0 b % 256))
-    ∙ ap eightSteps (ap (λ (m : ℕ). m % 256) (xor-zero-l b) ∙ mod-eq-of-lt (p .0))
-    ∙ sym (rule 0 b (omega arith) (p .0))
-fed-zero entry n rule (b ∷ c ∷ bs) h p =
-    fed-byte 0 b (c ∷ bs)
-    ∙ ap₂ bitXor (fed-zero entry n rule (c ∷ bs) (omega arith) (p .1))
-    (ap (times (suc (suc (length bs)))) (ap (λ (m : ℕ). m % 256) (xor-zero-l b) ∙ mod-eq-of-lt (p .0))
-    ∙ sym (rule (suc (length bs)) b (omega arith) (p .0)))
+-- entries that are the same give the same
+pub late-same : (entry other : ℕ → ℕ → ℕ) (n : ℕ) → ((k b : ℕ) → k < n → b < 256 → entry k b ≡ other k b)
+    → (bs : List ℕ) → length bs ≤ n → Bytes bs → late entry bs ≡ late other bs
+late-same entry other n rule [] h p = refl
+late-same entry other n rule (b ∷ []) h p = rule 0 b (omega arith) (p .0)
+late-same entry other n rule (b ∷ c ∷ bs) h p =
+    ap₂ bitXor (late-same entry other n rule (c ∷ bs) (omega arith) (p .1)) (rule (suc (length bs)) b (omega arith) (p .0))
 
--- ---- sixteen bytes: those that meet the register are added to it first
+fed-zero : (bs : List ℕ) → Bytes bs → fed 0 bs ≡ late (λ k b. times (suc k) b) bs
+fed-zero [] p = refl
+fed-zero (b ∷ []) p =
+    xor-zero-r (eightSteps (bitXor 0 b % 256)) ∙ ap eightSteps (ap (λ (m : ℕ). m % 256) (xor-zero-l b) ∙ mod-eq-of-lt (p .0))
+fed-zero (b ∷ c ∷ bs) p =
+    fed-byte 0 b (c ∷ bs)
+    ∙ ap₂ bitXor (fed-zero (c ∷ bs) (p .1))
+    (ap (times (suc (suc (length bs)))) (ap (λ (m : ℕ). m % 256) (xor-zero-l b) ∙ mod-eq-of-lt (p .0)))
+
+-- ---- bytes that meet the register are added to it first
 low-byte : (r b h : ℕ) → b < 256 → bitXor r (b + 256 * h) % 256 ≡ bitXor r b % 256
 low-byte r b h j = xor-mod r (b + 256 * h) 8 ∙ ap (bitXor (r % 256)) (same b h j) ∙ sym (xor-mod r b 8)
   where
@@ -186,37 +189,40 @@ fourth-byte r b c d e h i j =
     ∙ ap (λ (n : ℕ). n / 256) (above (r / 256) c (d + 256 * e) i)
     ∙ above (r / 256 / 256) d e j)
 
-pub after-sixteen : (entry : ℕ → ℕ → ℕ) → ((k b : ℕ) → k < 16 → b < 256 → entry k b ≡ times (suc k) b)
-    → (r x b c d e : ℕ) (bs : List ℕ) → r < 2 ^ 31 → x ≡ bitXor r (b + 256 * (c + 256 * (d + 256 * e)))
-    → length bs ≡ 12 → Bytes (b ∷ c ∷ d ∷ e ∷ bs)
-    → bitXor (bitXor (bitXor (bitXor (late entry bs) (entry 12 (x / 16777216 % 256))) (entry 13 (x / 65536 % 256))) (entry 14 (x / 256 % 256))) (entry 15 (x % 256))
-    ≡ after r (b ∷ c ∷ d ∷ e ∷ bs)
+-- a byte that meets a register, and what the register and the byte come to in an empty one
+byte-added : (r b y : ℕ) (bs cs : List ℕ) → length bs ≡ length cs → y % 256 ≡ bitXor r b % 256 → fed 0 bs ≡ fed (r / 256) cs
+    → fed 0 (y % 256 ∷ bs) ≡ fed r (b ∷ cs)
+byte-added r b y bs cs n q e =
+    fed-byte 0 (y % 256) bs
+    ∙ ap₂ bitXor e (ap₂ times (ap suc n) (ap (λ (m : ℕ). m % 256) (xor-zero-l (y % 256)) ∙ again y ∙ q))
+    ∙ sym (fed-byte r b cs)
+  where
+    again : (y : ℕ) → y % 256 % 256 ≡ y % 256
+    again y = omega arith
+
+pub after-added : (r x b c d e : ℕ) (bs : List ℕ) → r < 2 ^ 31 → x ≡ bitXor r (b + 256 * (c + 256 * (d + 256 * e)))
+    → b < 256 → c < 256 → d < 256
+    → after 0 (x % 256 ∷ x / 256 % 256 ∷ x / 65536 % 256 ∷ x / 16777216 % 256 ∷ bs) ≡ after r (b ∷ c ∷ d ∷ e ∷ bs)
 unfolding after
-after-sixteen entry rule r x b c d e bs h e0 n p =
-    sym (fed-byte r b (c ∷ d ∷ e ∷ bs)
-    ∙ ap₂ bitXor (fed-byte (r / 256) c (d ∷ e ∷ bs)
-    ∙ ap₂ bitXor (fed-byte (r / 256 / 256) d (e ∷ bs)
-    ∙ ap₂ bitXor (fed-byte (r / 256 / 256 / 256) e bs
-    ∙ ap₂ bitXor (ap (λ (m : ℕ). fed m bs) (empty r h) ∙ fed-zero entry 16 rule bs (omega arith) (p .1 .1 .1 .1))
-    (term 12 (suc (length bs)) (bitXor (r / 256 / 256 / 256) e) (x / 16777216) (omega arith) (omega arith) (sym (ap (λ (m : ℕ). m / 16777216 % 256) e0 ∙ fourth-byte r b c d e (p .0) (p .1 .0) (p .1 .1 .0)))))
-    (term 13 (suc (suc (length bs))) (bitXor (r / 256 / 256) d) (x / 65536) (omega arith) (omega arith) (sym (ap (λ (m : ℕ). m / 65536 % 256) e0 ∙ third-byte r b c d e (p .0) (p .1 .0) (p .1 .1 .0)))))
-    (term 14 (suc (suc (suc (length bs)))) (bitXor (r / 256) c) (x / 256) (omega arith) (omega arith) (sym (ap (λ (m : ℕ). m / 256 % 256) e0 ∙ second-byte r b c d e (p .0) (p .1 .0)))))
-    (term 15 (suc (suc (suc (suc (length bs))))) (bitXor r b) x (omega arith) (omega arith) (sym (ap (λ (m : ℕ). m % 256) e0 ∙ first-byte r b c d e (p .0)))))
+after-added r x b c d e bs h e0 i j k =
+    byte-added r b x (x / 256 % 256 ∷ x / 65536 % 256 ∷ x / 16777216 % 256 ∷ bs) (c ∷ d ∷ e ∷ bs) refl
+    (ap (λ (m : ℕ). m % 256) e0 ∙ first-byte r b c d e i)
+    (byte-added (r / 256) c (x / 256) (x / 65536 % 256 ∷ x / 16777216 % 256 ∷ bs) (d ∷ e ∷ bs) refl
+    (ap (λ (m : ℕ). m / 256 % 256) e0 ∙ second-byte r b c d e i j)
+    (byte-added (r / 256 / 256) d (x / 65536) (x / 16777216 % 256 ∷ bs) (e ∷ bs) refl
+    (ap (λ (m : ℕ). m / 65536 % 256) e0 ∙ third-byte r b c d e i j k)
+    (byte-added (r / 256 / 256 / 256) e (x / 16777216) bs bs refl
+    (ap (λ (m : ℕ). m / 16777216 % 256) e0 ∙ fourth-byte r b c d e i j k)
+    (ap (λ (m : ℕ). fed m bs) (sym (empty r h))))))
   where
     empty : (r : ℕ) → r < 2 ^ 31 → r / 256 / 256 / 256 / 256 ≡ 0
     empty r h = omega arith
-
-    low : (n : ℕ) → n % 256 < 256
-    low n = omega arith
-
-    term : (k count m y : ℕ) → k < 16 → count ≡ suc k → m % 256 ≡ y % 256 → times count (m % 256) ≡ entry k (y % 256)
-    term k count m y h f q = ap₂ times f q ∙ sym (rule k (y % 256) h (low y))
 
 -- bytes that meet an empty register
 pub after-zero : (entry : ℕ → ℕ → ℕ) (n : ℕ) → ((k b : ℕ) → k < n → b < 256 → entry k b ≡ times (suc k) b)
     → (bs : List ℕ) → length bs ≤ n → Bytes bs → after 0 bs ≡ late entry bs
 unfolding after
-after-zero entry n rule bs h p = fed-zero entry n rule bs h p
+after-zero entry n rule bs h p = fed-zero bs p ∙ sym (late-same entry (λ k b. times (suc k) b) n rule bs h p)
 
 -- what stood in the register and the bytes, each alone
 pub after-apart : (r : ℕ) (bs : List ℕ) → r < 2 ^ 31 → after r bs ≡ bitXor (after 0 bs) (times (length bs) r)

@@ -1,12 +1,14 @@
 // Writing a line, and reading one alone (document 000, III-C).
 use crate::crc;
+use crate::tables;
 use linecode::alone::Reading;
 use linecode::hamming;
 use linecode::hamming::Answer;
 use linecode::place;
 ghost use mathlib.Core.Path.{_≡_};
 ghost use mathlib.Core.Bool.{false};
-ghost use lib.ListN.{length};
+ghost use lib.ListN.{length, take};
+ghost use Rattle.register.specs.Slices.{after};
 ghost use Rattle.linecode.specs.Places.{places, lineOf};
 ghost use Rattle.linecode.specs.Code.{dataOf, codeword, accepted, isCorrect};
 ghost use Rattle.linecode.specs.Reading.{readAlone};
@@ -27,22 +29,31 @@ pub fn write_line(payload: [u8; 64]) -> [u8; 70]
     rewrite(place::load(&payload))
 }
 
-// A line written from 64 data bytes into a buffer of its length. The data go straight into the buffer, and the CRC and the Hamming bits
-// after them there: nothing that was just stored is read back.
+// The codeword of a line's data, whose CRC is known, stored into a buffer of its length. The data go straight into the buffer, and the CRC and
+// the Hamming bits after them there: nothing that was just stored is read back.
+fn store_codeword(bytes: [u8; 70], crc: u32, out: &mut [u8])
+    requires { ⌜ (crc ≡ after 0 (take 64 bytes)) × (length (now out) ≡ 70) ⌝ }
+    ensures { λ _. ⌜ now (out .exit) ≡ lineOf (codeword (dataOf (places bytes))) ⌝ }
+{
+    let positions = wordsums::sum_with(bytes, crc);
+    place::store(bytes, out);
+    out[64] = (crc % 256) as u8;
+    out[65] = (crc / 256 % 256) as u8;
+    out[66] = (crc / 65536 % 256) as u8;
+    out[67] = (crc / 16777216 % 256) as u8;
+    out[68] = (positions % 256) as u8;
+    out[69] = (positions / 256) as u8;
+}
+
+// A line written from 64 data bytes into a buffer of its length. The CRC is worked out from the caller's bytes: a copy that was just made is
+// slow to load from.
 pub fn write_into(payload: &[u8], line: &mut [u8])
     requires { ⌜ (length (now payload) ≡ 64) × (length (now line) ≡ 70) ⌝ }
     ensures { λ _. ⌜ now (line .exit) ≡ written (now (payload .entry)) ⌝ }
 {
     let bytes = place::load(payload);
-    let crc = crc::of_data(bytes);
-    let positions = wordsums::sum_with(bytes, crc);
-    place::store(bytes, line);
-    line[64] = (crc % 256) as u8;
-    line[65] = (crc / 256 % 256) as u8;
-    line[66] = (crc / 65536 % 256) as u8;
-    line[67] = (crc / 16777216 % 256) as u8;
-    line[68] = (positions % 256) as u8;
-    line[69] = (positions / 256) as u8;
+    let crc = tables::after_data(payload);
+    store_codeword(bytes, crc, line);
 }
 
 // The protected place whose flip makes a line's word divisible, as the corrector finds it, or 543. A number, so that where a line is
@@ -91,18 +102,15 @@ pub fn read_line(line: [u8; 70]) -> Reading
     read_hurt(line)
 }
 
-// A line read alone into a buffer of its length: its mark. A clean line is copied and its last bytes are stored over the copy.
+// A line read alone into a buffer of its length: its mark. A clean line reads as the codeword of its data.
 pub fn read_into(line: &[u8], out: &mut [u8]) -> u8
     requires { ⌜ (length (now line) ≡ 70) × (length (now out) ≡ 70) ⌝ }
     ensures { λ r. ⌜ (now (out .exit) ≡ reading (now (line .entry)) .line) × (r ≡ reading (now (line .entry)) .mark) ⌝ }
 {
     let bytes = place::load(line);
-    if crc::agrees(bytes) {
-        let positions = wordsums::position_sum(bytes);
-        place::store(bytes, out);
-        out[67] = bytes[67] % 128;
-        out[68] = (positions % 256) as u8;
-        out[69] = (positions / 256) as u8;
+    let stored = linecode::crc::stored(bytes);
+    if tables::after_data(line) == stored {
+        store_codeword(bytes, stored, out);
         return 0;
     }
     let read = read_hurt(bytes);

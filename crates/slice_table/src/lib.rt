@@ -4,7 +4,7 @@ ghost use lib.ListN.{getD};
 ghost use Rattle.slice_table.specs.From256.{from256};
 
 // The entry at i, or 0 where there is none.
-pub fn entry(table: [u32; 256], i: usize) -> u32
+pub fn entry(table: [u64; 256], i: usize) -> u64
     ensures { λ r. ⌜ r ≡ getD (from256 table) i 0 ⌝ }
 {
     if i < 256 {

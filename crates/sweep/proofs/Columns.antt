@@ -1,26 +1,16 @@
--- Sums of columns, and functions that pass through exclusive or.
+-- Sums of columns, and what functions that pass through exclusive or make of them.
 use mathlib.Core.Path.{_≡_, refl, sym, ap, ap₂, _∙_}
 use mathlib.Core.Bool.{true, false}
 use mathlib.Core.List.{List, [], _∷_, _++_, map}
-use Prim.Native.Nat.{ℕ, zero, suc, _/_, _%_, _^_, _≤_}
+use Prim.Native.Nat.{ℕ, zero, suc, _≤_}
 use native.Mathlib.Nat.{le-of-suc-le-suc, not-suc-le-zero}
-use lib.Bits.{bitAnd, bitXor, xor-self, xor-shr, xor-mod}
+use lib.Bits.{bitAnd, bitXor}
 use lib.ListN.{length, take, drop}
 use Rattle.gf2.specs.Word.{Word}
 use Rattle.gf2.specs.Check.{columnSum}
 use Rattle.gf2.proofs.Digits.{bitXor-assoc}
-use Rattle.register.proofs.Slicing.{late}
+use Rattle.register.proofs.Additive.{Additive, additive-zero}
 use Rattle.linecode.proofs.Linear.{and-xor, swap-middle}
-
--- a function of numbers that passes through exclusive or
-abbrev pub Additive : (ℕ → ℕ) → Type 0
-Additive g = (a b : ℕ) → g (bitXor a b) ≡ bitXor (g a) (g b)
-
-pub add-shr : (k : ℕ) → Additive (λ n. n / 2 ^ k)
-add-shr k a b = xor-shr a b k
-
-pub add-mod : (k : ℕ) → Additive (λ n. n % 2 ^ k)
-add-mod k a b = xor-mod a b k
 
 pub add-and : (g : ℕ → ℕ) (m : ℕ) → Additive g → Additive (λ n. bitAnd (g n) m)
 add-and g m l a b = ap (λ (n : ℕ). bitAnd n m) (l a b) ∙ and-xor (g a) (g b) m
@@ -28,24 +18,12 @@ add-and g m l a b = ap (λ (n : ℕ). bitAnd n m) (l a b) ∙ and-xor (g a) (g b
 pub add-xor : (f g : ℕ → ℕ) → Additive f → Additive g → Additive (λ n. bitXor (f n) (g n))
 add-xor f g l m a b = ap₂ bitXor (l a b) (m a b) ∙ swap-middle (f a) (f b) (g a) (g b)
 
-additive-zero : (g : ℕ → ℕ) → Additive g → g 0 ≡ 0
-additive-zero g l = l 0 0 ∙ xor-self (g 0)
-
 -- of a sum of columns it is the sum of what it makes of them
 pub additive-sum : (g : ℕ → ℕ) → Additive g → (cs : List ℕ) (w : Word) → g (columnSum cs w) ≡ columnSum (map g cs) w
 additive-sum g l [] w = additive-zero g l
 additive-sum g l (c ∷ cs) [] = additive-zero g l
 additive-sum g l (c ∷ cs) (false ∷ w) = additive-sum g l cs w
 additive-sum g l (c ∷ cs) (true ∷ w) = l c (columnSum cs w) ∙ ap (bitXor (g c)) (additive-sum g l cs w)
-
--- of entries that are added too
-pub additive-late : (g : ℕ → ℕ) → Additive g → (entry : ℕ → ℕ → ℕ) (bs : List ℕ)
-    → g (late entry bs) ≡ late (λ k b. g (entry k b)) bs
-additive-late g l entry [] = additive-zero g l
-additive-late g l entry (b ∷ []) = refl
-additive-late g l entry (b ∷ c ∷ bs) =
-    l (late entry (c ∷ bs)) (entry (suc (length bs)) b)
-    ∙ ap (λ (n : ℕ). bitXor n (g (entry (suc (length bs)) b))) (additive-late g l entry (c ∷ bs))
 
 pub sum-none : (cs : List ℕ) → columnSum cs [] ≡ 0
 sum-none [] = refl

@@ -14,12 +14,13 @@ use Rattle.gf2.specs.Generator.{generator, generatorPolynomial}
 use Rattle.gf2.proofs.Digits.{length-digits, digits-mod, digits-add}
 use Rattle.register.specs.Slices.{upFrom, eightSteps, slicesFrom, sliceTable, after}
 use Rattle.register.proofs.Bytes.{Bytes}
-use Rattle.register.proofs.Slicing.{eight-lt, times, late, after-lt, after-append, after-sixteen, after-zero, after-apart}
+use Rattle.register.proofs.Slicing.{eight-lt, times, late, after-lt, after-append, after-added, after-zero, after-apart}
+use Rattle.register.proofs.Additive.{add-shr, add-mod, additive-late}
 use Rattle.register.proofs.TableRule.{getD-upFrom, getD-map, length-upFrom, entry-at, entryOf}
 use Rattle.linecode.specs.Places.{bitsOf}
 use Rattle.line_table.specs.Table.{fields, fieldsAt, beside, lineTable}
 use Rattle.sweep.specs.Sums.{Summed}
-use Rattle.sweep.proofs.Columns.{add-shr, add-mod, additive-late, sum-none, sum-split}
+use Rattle.sweep.proofs.Columns.{sum-none, sum-split}
 
 -- ---- one entry
 getD-beside : (low high : List ℕ) (i : ℕ) → i < length low → i < length high
@@ -164,8 +165,9 @@ bytes-small r = (low r, (low (r / 256), (low (r / 65536), (low (r / 16777216), t
 times-sixteen : (r : ℕ) → r < 2 ^ 31 → late (λ k b. times (suc (12 + k)) b) (bytesOf32 r) ≡ times 16 r
 times-sixteen r h =
     ap (λ (n : ℕ). bitXor (bitXor (bitXor (bitXor n (times 13 (r / 16777216 % 256))) (times 14 (r / 65536 % 256))) (times 15 (r / 256 % 256))) (times 16 (r % 256))) (sym late-zeros)
-    ∙ after-sixteen (λ k b. times (suc k) b) (λ k b i j. refl) r r 0 0 0 0 zeros12 h (sym (xor-zero-r r)) refl
-    (none, (none, (none, (none, (none, (none, (none, (none, (none, (none, (none, (none, (none, (none, (none, (none, tt))))))))))))))))
+    ∙ sym (after-zero (λ k b. times (suc k) b) 16 (λ k b i j. refl) (bytesOf32 r ++ zeros12) (omega arith)
+    (low r, (low (r / 256), (low (r / 65536), (low (r / 16777216), (none, (none, (none, (none, (none, (none, (none, (none, (none, (none, (none, (none, tt)))))))))))))))))
+    ∙ after-added r r 0 0 0 0 zeros12 h (sym (xor-zero-r r)) none none none
     ∙ after-apart r (0 ∷ 0 ∷ 0 ∷ 0 ∷ zeros12) h
     ∙ ap (λ (n : ℕ). bitXor n (times 16 r)) after-zeros
   where

@@ -13,6 +13,7 @@ use Rattle.gf2.specs.Check.{columnSum}
 use Rattle.gf2.proofs.Digits.{digits-number, number-lt}
 use Rattle.gf2.proofs.Hamming.{columnSum-append}
 use Rattle.register.specs.Slices.{upFrom}
+use Rattle.register.proofs.Additive.{Additive, add-shr}
 use Rattle.register.proofs.TableRule.{alike, alike-sound, length-upFrom}
 use Rattle.linecode.specs.Places.{hammingPlaces, bitsOf, places}
 use Rattle.linecode.specs.Code.{positions, hammingColumns, protected, dataOf, storedCrc}
@@ -21,7 +22,7 @@ use Rattle.linecode.proofs.Line.{dataOf-line}
 use Rattle.linecode.proofs.Stores.{length-storedCrc, protected-parts, storedCrc-number}
 use Rattle.line_table.specs.Table.{field, fields}
 use Rattle.sweep.specs.Sums.{atFirst, atSecond, atThird, atFourth, atLast}
-use Rattle.sweep.proofs.Columns.{Additive, add-shr, add-and, add-xor, additive-sum, sum-first}
+use Rattle.sweep.proofs.Columns.{add-and, add-xor, additive-sum, sum-first}
 use Rattle.line_table.proofs.TableRule.{fieldNumbers, fields-are}
 
 -- ---- each block's positions come out of its fields, by one computed test

@@ -1,48 +1,58 @@
--- `single::alone::read_into` meets its contract: a clean line is copied and its Hamming bits stored, a hurt one is stored as it reads.
+-- `single::alone::read_into` meets its contract: of a clean line the codeword of its data is stored, a hurt one is stored as it reads.
 use mathlib.Core.Path.{_≡_, sym, ap, _∙_}
-use mathlib.Core.List.{List}
-use Prim.Native.Nat.{ℕ, _/_, _%_}
+use Prim.Native.Nat.{_≤_}
 use native.Mathlib.Omega.{arith}
 use borrow.Author.Needs.{needs}
-use lib.ListN.{getD, set, length-set}
+use borrow.Author.Tests.{eq-eqb, ne-eqb}
+use lib.Dec.{eqb}
+use lib.ListN.{length, take}
+use Rattle.register.specs.Slices.{after}
+use Rattle.linecode.specs.Places.{places}
+use Rattle.linecode.specs.Code.{accepted}
 use Rattle.linecode.specs.Entry.{reading}
 use Rattle.linecode.specs.declared.alone.Reading.{Reading}
-use Rattle.linecode.proofs.Bytes.{array-length, array-bytes}
-use Rattle.linecode.proofs.Loading.{loaded-whole}
-use Rattle.linecode.proofs.Stores.{stored-sum}
-use Rattle.linecode.proofs.ReadAlone.{read-clean, in-bytes}
+use Rattle.linecode.proofs.Bytes.{array-length}
+use Rattle.linecode.proofs.Loading.{take-loaded, loaded-whole}
+use Rattle.linecode.proofs.CrcRegister.{crc-after}
+use Rattle.linecode.proofs.Codeword.{crc-agrees}
+use Rattle.single.proofs.Entry.{clean-reading}
 use Rattle.single.proofs.alone.read_into.Statement.{statement}
 use Rattle.single.proofs.alone.read_into.Tie as tie
 
 load-requires : tie.Need-load-requires
 load-requires c κs = search needs
 
-agrees-requires : tie.Need-agrees-requires
-agrees-requires c κs = search needs
+stored-requires : tie.Need-stored-requires
+stored-requires c κs = search needs
 
-position-sum-requires : tie.Need-position-sum-requires
-position-sum-requires c κs = search needs
+after-data-requires : tie.Need-after-data-requires
+after-data-requires c κs = search needs
 
-store-requires : tie.Need-store-requires
-store-requires c κs = search needs
+-- what was worked out of the caller's bytes is the same of the loaded ones
+worked : (c : tie.After-after-data) → c .after-data .result ≡ after 0 (take 64 (c .before .before .load .result))
+worked c =
+    let loaded = c .before .before in
+    let s = loaded .before .before .before .args .line .now in
+    let long : 64 ≤ length s = omega arith in
+    c .after-data .ensures ∙ ap (after 0) (sym (take-loaded s (loaded .load .result) long (loaded .load .ensures)))
 
-array-read-out : tie.Need-array-read-out
-array-read-out c = search needs
+agreed : (c : tie.After-after-data)
+    → eqb (c .after-data .result) (c .before .stored .result) ≡ accepted (places (c .before .before .load .result))
+agreed c =
+    let loaded = c .before .before .load in
+    let whole = array-length 70 (loaded .result) _ (loaded .ok) in
+    crc-agrees (loaded .result) _ _ whole (crc-after (loaded .result) _ whole (worked c)) (c .before .stored .ensures)
 
-slice-write-out : tie.Need-slice-write-out
-slice-write-out c = search needs
+-- reading what was loaded is reading the caller's line
+read-loaded : (c : tie.After-load) → reading (c .load .result) ≡ reading (c .before .before .before .args .line .now)
+read-loaded c =
+    let start = c .before .before .before in
+    ap reading (c .load .ensures ∙ loaded-whole (start .args .line .now) (start .pre .0))
 
-cast-out : tie.Need-cast-out
-cast-out c = search needs
-
-slice-write-out-2 : tie.Need-slice-write-out-2
-slice-write-out-2 c = simp length-set (omega arith)
-
-cast-out-2 : tie.Need-cast-out-2
-cast-out-2 c = search needs
-
-slice-write-out-3 : tie.Need-slice-write-out-3
-slice-write-out-3 c = simp length-set (omega arith)
+store-codeword-requires : tie.Need-store-codeword-requires
+store-codeword-requires c κs =
+    let test = c .before in
+    (sym (test .if1 .taken) ∙ worked (test .before), test .before .before .before .before .before .before .pre .1)
 
 same-length : tie.Need-same-length
 same-length c = search needs
@@ -50,25 +60,20 @@ same-length c = search needs
 returns : tie.Need-returns
 returns c =
     let put = c .before .before in
-    let summed = put .before .before in
-    let agreed = summed .before .before in
-    let start = agreed .before .before .before .before in
-    let line = agreed .before .load .result in
-    let s = summed .position-sum .result in
-    let ok = agreed .before .load .ok in
-    let read = in-bytes line _ (read-clean _ (sym (agreed .agrees .ensures) ∙ summed .before .if1 .taken))
-    ∙ ap reading (agreed .before .load .ensures ∙ loaded-whole (start .args .line .now) (start .pre .0)) in (
-      ap (λ (b : List ℕ). set (set (set b 67 (getD line 67 0 % 128)) 68 (s % 256)) 69 (s / 256)) (put .store .ensures)
-          ∙ stored-sum line (array-length 70 line _ ok) (array-bytes 70 line _ ok) s (summed .position-sum .ensures)
-          ∙ ap (λ (r : Reading). r .line) read,
+    let test = put .before .before in
+    let loaded = test .before .before .before in
+    let read = clean-reading (loaded .load .result) (array-length 70 (loaded .load .result) _ (loaded .load .ok))
+    (sym (agreed (test .before)) ∙ eq-eqb _ _ (test .if1 .taken))
+    ∙ read-loaded loaded in (
+      put .store-codeword .ensures ∙ ap (λ (r : Reading). r .line) read,
       ap (λ (r : Reading). r .mark) read,
     )
 
 read-hurt-requires : tie.Need-read-hurt-requires
-read-hurt-requires c κs = sym (c .before .agrees .ensures) ∙ c .if1 .left
+read-hurt-requires c κs = sym (agreed (c .before)) ∙ ne-eqb _ _ (c .if1 .left)
 
-store-requires-2 : tie.Need-store-requires-2
-store-requires-2 c κs = search needs
+store-requires : tie.Need-store-requires
+store-requires c κs = search needs
 
 same-length-2 : tie.Need-same-length-2
 same-length-2 c = search needs
@@ -77,10 +82,8 @@ returns-2 : tie.Need-returns-2
 returns-2 c =
     let put = c .before .before in
     let hurt = put .before .before .before in
-    let start = hurt .before .before .before .before .before .before in
-    let read = hurt .read-hurt .ensures
-    ∙ ap reading (hurt .before .before .before .load .ensures ∙ loaded-whole (start .args .line .now) (start .pre .0)) in (
-      put .store2 .ensures ∙ ap (λ (r : Reading). r .line) read,
+    let read = hurt .read-hurt .ensures ∙ read-loaded (hurt .before .before .before .before) in (
+      put .store .ensures ∙ ap (λ (r : Reading). r .line) read,
       ap (λ (r : Reading). r .mark) read,
     )
 
@@ -89,18 +92,12 @@ read-into-spec =
     tie.close
     (tie.spec
     load-requires
-    agrees-requires
-    position-sum-requires
-    store-requires
-    array-read-out
-    slice-write-out
-    cast-out
-    slice-write-out-2
-    cast-out-2
-    slice-write-out-3
+    stored-requires
+    after-data-requires
+    store-codeword-requires
     same-length
     returns
     read-hurt-requires
-    store-requires-2
+    store-requires
     same-length-2
     returns-2)
