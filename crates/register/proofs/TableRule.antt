@@ -140,7 +140,3 @@ entry-at k b h j =
 abbrev pub entryOf : List ℕ → ℕ → ℕ → ℕ
 entryOf table zero b = getD table b 0
 entryOf table (suc k) b = getD table (256 * suc k + b) 0
-
-pub entryOf-rule : (table : List ℕ) → table ≡ sliceTable → (k b : ℕ) → k < 16 → b < 256 → entryOf table k b ≡ times (suc k) b
-entryOf-rule table e zero b h j = ap (λ (t : List ℕ). getD t b 0) e ∙ ap (λ (i : ℕ). getD sliceTable i 0) (sym (zero-add b)) ∙ entry-at 0 b h j
-entryOf-rule table e (suc k) b h j = ap (λ (t : List ℕ). getD t (256 * suc k + b) 0) e ∙ entry-at (suc k) b h j
