@@ -20,11 +20,11 @@ use Rattle.scheme.proofs.Lists.{selects}
 use Rattle.rectangle.specs.Store.{bytesAt, putBytes}
 use Rattle.rectangle.proofs.Groups.{row-below, column-below}
 use Rattle.rectangle.proofs.Spare.{places-lineOf}
-use Rattle.mending.specs.Lent.{Holding, Room, Carried, Some, Beside, groupOf, membersOf, added}
-use Rattle.mending.proofs.Numbers.{members-rising, home-row, home-column, homes}
-use Rattle.mending.proofs.Mending.{one-if, beside-elsewhere, beside-here}
-use Rattle.mending.proofs.Held.{held-count, held-mark, held-bytes, held-put}
-use Rattle.mending.proofs.Added.{added-length, added-same, added-other}
+use Rattle.groups.specs.Lent.{Holding, Room, Carried, Some, Beside, groupOf, membersOf, added}
+use Rattle.groups.proofs.Numbers.{members-rising, home-row, home-column, homes}
+use Rattle.groups.proofs.Beside.{one-if, beside-elsewhere, beside-here}
+use Rattle.groups.proofs.Held.{held-count, held-mark, held-bytes, held-put}
+use Rattle.groups.proofs.Added.{added-length, added-same, added-other}
 
 -- a list with a member is not empty
 some-there : (n : ℕ) (l : List ℕ) → n ∈ l → 0 < length l

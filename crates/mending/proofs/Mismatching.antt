@@ -14,7 +14,7 @@ use Rattle.scheme.specs.Layer.{readLine}
 use Rattle.scheme.specs.Visit.{Group, State, lineAt, faultyOf, sum, setPlaces, mismatch, triable, tryLines, trial}
 use Rattle.rectangle.specs.Store.{lineLayer, bytesAt, stride}
 use Rattle.rectangle.proofs.Spare.{places-lineOf}
-use Rattle.mending.specs.Lent.{Carried, Listed, Numbered, membersOf, groupOf}
+use Rattle.groups.specs.Lent.{Carried, Listed, Numbered, membersOf, groupOf}
 
 no-second : (a c : Bool) → a && (false && c) ≡ false
 no-second true c = refl

@@ -17,9 +17,9 @@ use Rattle.scheme.proofs.Lists.{selected}
 use Rattle.scheme.proofs.Sums.{sum-split}
 use Rattle.rectangle.specs.Store.{bytesAt, stride}
 use Rattle.rectangle.proofs.Spare.{places-lineOf}
-use Rattle.mending.specs.Lent.{Room, Carried, Some, Inside, Numbered, faultyAmong, membersOf, groupOf}
-use Rattle.mending.proofs.Numbers.{members-rising, members-inside}
-use Rattle.mending.proofs.Held.{held-count, held-faulty, held-bytes}
+use Rattle.groups.specs.Lent.{Room, Carried, Some, Inside, Numbered, faultyAmong, membersOf, groupOf}
+use Rattle.groups.proofs.Numbers.{members-rising, members-inside}
+use Rattle.groups.proofs.Held.{held-count, held-faulty, held-bytes}
 
 -- a list of one, by its first
 one-only : (l : List ℕ) → length l ≡ 1 → l ≡ getD l 0 0 ∷ []

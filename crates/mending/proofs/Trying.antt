@@ -1,6 +1,5 @@
 -- The trials on the buffers that hold the store.
 use mathlib.Core.Path.{_≡_, refl, sym, ap, ap₂, _∙_, subst}
-use mathlib.Core.Logic.{_⊎_, inl, inr}
 use mathlib.Core.Bool.{Bool, cond}
 use mathlib.Core.List.{List, []}
 use Prim.Native.Nat.{ℕ, suc, _+_, _-_, _*_, _≤_, _<_}
@@ -13,28 +12,19 @@ use lib.Seq.{drop-cons, set-getD, length-take-le}
 use Rattle.gf2.specs.Word.{Word, flip}
 use Rattle.gf2.proofs.Weight.{length-flip}
 use Rattle.linecode.specs.Places.{linePlaces, places, lineOf}
-use Rattle.linecode.specs.Code.{Correct}
 use Rattle.linecode.specs.Reading.{readAlone}
 use Rattle.linecode.specs.Entry.{reading}
 use Rattle.linecode.specs.declared.alone.Reading.{Reading}
 use Rattle.linecode.proofs.Line.{length-places}
 use Rattle.linecode.proofs.ReadAlone.{places-flipped}
-use Rattle.linecode.proofs.Promises.{promises}
 use Rattle.scheme.specs.Layer.{Cell, readLine}
 use Rattle.scheme.specs.Visit.{State, cellAt, isFaulty, tryPlaces, tryLines}
 use Rattle.rectangle.specs.Store.{lineLayer, readUnder, bytesAt, stride}
 use Rattle.rectangle.proofs.Spare.{places-lineOf}
-use Rattle.mending.specs.Lent.{Room, Carried, Some, Numbered}
-use Rattle.mending.proofs.Walk.{Walking, walk-start, walk-in, walk-next, left-some, left-none}
-use Rattle.mending.proofs.Held.{held-count, held-mark, held-bytes}
-
--- reading alone keeps the number of places
-pub read-long : (w : Word) → length w ≡ linePlaces → length (readAlone w .word) ≡ linePlaces
-read-long w e = go (promises .sound w e)
-  where
-    go : (readAlone w .mark ≡ 4) ⊎ ((readAlone w .mark ≤ 1) × Correct (readAlone w .word)) → length (readAlone w .word) ≡ linePlaces
-    go (inl q) = ap length (promises .kept w q) ∙ e
-    go (inr q) = promises .sized (readAlone w .word) (q .1)
+use Rattle.groups.specs.Lent.{Room, Carried, Some, Numbered}
+use Rattle.groups.proofs.Walk.{Walking, walk-start, walk-in, walk-next, left-some, left-none}
+use Rattle.groups.proofs.Held.{held-count, held-mark, held-bytes}
+use Rattle.groups.proofs.Rooms.{read-long}
 
 -- up to six places out of an array for six
 pub tries-length : (n : ℕ) (l : List ℕ) → n ≤ 6 → length l ≡ 6 → length (take n l) ≡ n
@@ -231,25 +221,6 @@ module _ (rows columns : ℕ) (out₀ marks₀ lacks₀ faulty₀ : List ℕ) (f
           subst (λ (c : Cell). Carried rows columns parity out′ marks′ lacks′ faulty′ (set v n c))
           (sym (own-tried parity v h ∙ f (cellAt v n) (own-line parity v h)))
           (m parity v w h e q))
-
--- buffers of the same lengths have the same room
-pub same-room : (rows columns : ℕ) (out marks lacks faulty out′ marks′ lacks′ faulty′ : List ℕ) → Room rows columns out marks lacks faulty
-    → length out′ ≡ length out → length marks′ ≡ length marks → length lacks′ ≡ length lacks → length faulty′ ≡ length faulty
-    → Room rows columns out′ marks′ lacks′ faulty′
-same-room rows columns out marks lacks faulty out′ marks′ lacks′ faulty′ r e f g h =
-    record {
-      rect =
-          record {
-            rowsLow = r .rect .rowsLow;
-            rowsHigh = r .rect .rowsHigh;
-            columnsLow = r .rect .columnsLow;
-            columnsHigh = r .rect .columnsHigh;
-            outBytes = e ∙ r .rect .outBytes;
-            markBytes = f ∙ r .rect .markBytes;
-          };
-      lackBytes = g ∙ r .lackBytes;
-      counts = h ∙ r .counts;
-    }
 
 -- the same with the buffers under other names
 pub retry : (rows columns : ℕ) (out₀ marks₀ lacks₀ faulty₀ : List ℕ) (first step count : ℕ) (ps a b x y out marks lacks faulty : List ℕ) (n i : ℕ)

@@ -9,10 +9,9 @@ ghost use Rattle.line_table.specs.Table.{lineTable};
 ghost use Rattle.scheme.specs.Layer.{readLine};
 ghost use Rattle.scheme.specs.Visit.{State, tryLines, settle, trial as trial·, visit};
 ghost use Rattle.rectangle.specs.Store.{lineLayer, stride};
-ghost use Rattle.mending.specs.Lent.{Ready, Carried, Makes, Numbered, groupOf};
-use crate::group;
-use crate::group::Chosen;
-use crate::group::Places;
+ghost use Rattle.groups.specs.Lent.{Ready, Carried, Makes, Numbered, groupOf};
+use groups::Chosen;
+use groups::Places;
 use linecode::place;
 use rectangle::lines;
 use sweep::reading;
@@ -40,9 +39,9 @@ fn mend(
     marks[n] = mark;
     let r = n / columns;
     let c = rows + n % columns;
-    group::add(lacks, r, change);
+    groups::add(lacks, r, change);
     faulty[r] -= 1;
-    group::add(lacks, c, change);
+    groups::add(lacks, c, change);
     faulty[c] -= 1;
 }
 
@@ -104,7 +103,7 @@ fn settle_group(
 {
     let k = chosen.group;
     if faulty[k] == 1 {
-        let n = group::first_faulty(marks, chosen.first, chosen.step, chosen.count);
+        let n = groups::first_faulty(marks, chosen.first, chosen.step, chosen.count);
         let lack = lines::line_at(lacks, k);
         let rebuilt = place::xor_lines(lines::line_at(out, n), lack);
         mend(out, marks, lacks, faulty, rows, columns, n, rebuilt, 3);
@@ -131,7 +130,7 @@ fn try_group(
     if faulty[k] < 2 {
         return;
     }
-    let tries = group::set_places(lines::line_at(lacks, k));
+    let tries = groups::set_places(lines::line_at(lacks, k));
     if tries.count < 1 {
         return;
     }

@@ -13,10 +13,10 @@ use Rattle.scheme.specs.Visit.{Group, State, cellAt, lineAt, isFaulty, select, 
 use Rattle.scheme.specs.Repair.{faultyCount, agrees, answer}
 use Rattle.rectangle.specs.Store.{bytesAt, stride, row}
 use Rattle.rectangle.specs.Refusals.{every}
-use Rattle.mending.specs.Lent.{Tracked, countTo, allZero, groupOf, membersOf}
+use Rattle.groups.specs.Lent.{Tracked, countTo, allZero, groupOf, membersOf}
 use Rattle.repair.specs.Lent.{allGroups}
-use Rattle.mending.proofs.Numbers.{row-of}
-use Rattle.mending.proofs.Added.{zero-lineOf}
+use Rattle.groups.proofs.Numbers.{row-of}
+use Rattle.groups.proofs.Added.{zero-lineOf}
 
 -- ---- all lines counted one by one are the store's lines
 count-from : (f : ℕ → Bool) (s : State) (i : ℕ) → ((j : ℕ) → j < length s → f (i + j) ≡ isFaulty (cellAt s j))

@@ -10,8 +10,8 @@ use Rattle.linecode.specs.Code.{upFrom}
 use Rattle.scheme.specs.Visit.{Group}
 use Rattle.rectangle.specs.Store.{placesAt, rowGroup, columnGroup, groups}
 use Rattle.rectangle.proofs.Members.{map-below}
-use Rattle.mending.specs.Lent.{groupOf}
-use Rattle.mending.proofs.Numbers.{past, row-of, column-of}
+use Rattle.groups.specs.Lent.{groupOf}
+use Rattle.groups.proofs.Numbers.{past, row-of, column-of}
 use Rattle.repair.specs.Lent.{parityOf, allGroups}
 
 -- ---- the parity lines

@@ -15,10 +15,10 @@ use Rattle.rectangle.specs.Refusals.{repairRefusal}
 use Rattle.rectangle.specs.Repair.{repaired, handedOver, StoreRepaired, repairStore}
 use Rattle.rectangle.proofs.Buffer.{length-placesAt}
 use Rattle.rectangle.proofs.Runs.{repair-runs, repair-refused}
-use Rattle.mending.specs.Lent.{Beside, Tracked, Carried, Rectangular, Room, membersOf, groupOf}
+use Rattle.groups.specs.Lent.{Beside, Tracked, Carried, Rectangular, Room, membersOf, groupOf}
 use Rattle.repair.specs.Lent.{RanPasses, Finished, parityOf, allGroups}
-use Rattle.mending.proofs.Numbers.{by-number}
-use Rattle.mending.proofs.Held.{held-count}
+use Rattle.groups.proofs.Numbers.{by-number}
+use Rattle.groups.proofs.Held.{held-count}
 use Rattle.repair.proofs.Groups.{row-parity, column-parity, all-groups}
 
 -- ---- no line is read yet

@@ -5,7 +5,4 @@ pub mod Starting
 pub mod Counting
 pub mod Passing
 pub mod Running
-pub mod FirstReading
-pub mod Adding
-pub mod Sweeping
 pub mod Handing

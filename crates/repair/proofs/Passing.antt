@@ -11,9 +11,9 @@ use Rattle.scheme.specs.Layer.{readLine}
 use Rattle.scheme.specs.Visit.{State, trial, visit}
 use Rattle.scheme.specs.Repair.{pass}
 use Rattle.rectangle.specs.Store.{lineLayer}
-use Rattle.mending.specs.Lent.{Room, Carried, Some, Makes, groupOf}
+use Rattle.groups.specs.Lent.{Room, Carried, Some, Makes, groupOf}
 use Rattle.repair.specs.Lent.{allGroups}
-use Rattle.mending.proofs.Numbers.{any-numbered}
+use Rattle.groups.proofs.Numbers.{any-numbered}
 use Rattle.mending.proofs.Settling.{unsettled}
 use Rattle.mending.proofs.Mismatching.{few-faulty}
 use Rattle.mending.proofs.Trying.{four}

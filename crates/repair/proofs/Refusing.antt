@@ -15,7 +15,7 @@ use Rattle.rectangle.specs.Refusals.{unless, every, sidesFit, holds, parityCorr
 use Rattle.rectangle.proofs.Groups.{sides}
 use Rattle.rectangle.proofs.Refusing.{sizeTests, sizes-refused, sizes-then, sizes-next, SizesPass}
 use Rattle.rectangle.proofs.Tests.{passed}
-use Rattle.mending.specs.Lent.{Rectangular}
+use Rattle.groups.specs.Lent.{Rectangular}
 
 -- ---- every one of a list
 and-assoc : (a b c : Bool) → a && (b && c) ≡ a && b && c

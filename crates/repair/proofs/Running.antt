@@ -13,9 +13,9 @@ use Rattle.scheme.proofs.Grows.{grows-count}
 use Rattle.scheme.proofs.Steps.{pass-grows}
 use Rattle.scheme.proofs.Passes.{no-pass, last-pass, one-more-pass}
 use Rattle.rectangle.specs.Store.{lineLayer}
-use Rattle.mending.specs.Lent.{Room, Carried, Some, Makes, countTo}
+use Rattle.groups.specs.Lent.{Room, Carried, Some, Makes, countTo}
 use Rattle.repair.specs.Lent.{RanPasses, allGroups}
-use Rattle.mending.proofs.Held.{held-count}
+use Rattle.groups.proofs.Held.{held-count}
 use Rattle.repair.proofs.Counting.{count-all}
 
 -- the counts of the rows together are the faulty lines of the store

@@ -8,7 +8,7 @@ use lib.ListN.{length}
 use Rattle.gf2.specs.Word.{Word}
 use Rattle.linecode.specs.Places.{places, lineOf}
 use Rattle.rectangle.specs.Store.{bytesAt, placesAt, putBytes}
-use Rattle.mending.proofs.Added.{put-length, put-same, put-other}
+use Rattle.groups.proofs.Added.{put-length, put-same, put-other}
 
 -- r lines of a table are laid from line b on
 pub record Laid (table : List ℕ) (b total : ℕ) (lacks₀ lacks : List ℕ) (r : ℕ) : Type 0 where

@@ -1,7 +1,6 @@
 // Repair of a rectangle: document 01's steps on lent buffers. Document 01, "Repair".
 mod parity;
 mod passes;
-mod reading;
 
 ghost use mathlib.Core.Path.{_≡_};
 ghost use mathlib.Core.List.{[]};
@@ -13,9 +12,8 @@ ghost use Rattle.scheme.specs.Repair.{answer};
 ghost use Rattle.rectangle.specs.Refusals.{repairRefusal};
 ghost use Rattle.rectangle.specs.Repair.{StoreRepaired, repairStore};
 ghost use Rattle.line_table.specs.Table.{lineTable};
-ghost use Rattle.mending.specs.Lent.{Rectangular, Tracked};
+ghost use Rattle.groups.specs.Lent.{Rectangular, Tracked};
 ghost use Rattle.repair.specs.Lent.{allGroups, Finished};
-use mending::group;
 use rectangle::sizes;
 
 // What repair answers, and its passes.
@@ -71,10 +69,10 @@ fn answer_after(rows: usize, columns: usize, lacks: &[u8], faulty: &[u16]) -> u3
         → Tracked rows columns parity (now (lacks .entry)) (now (faulty .entry)) s
         → r ≡ answer (allGroups rows columns parity) s) ⌝ }
 {
-    if group::count_faulty(rows, faulty) != 0 {
+    if groups::count_faulty(rows, faulty) != 0 {
         return 11;
     }
-    if !group::all_agree(rows + columns, lacks) {
+    if !groups::all_agree(rows + columns, lacks) {
         return 12;
     }
     0
@@ -97,7 +95,7 @@ fn steps(
         → Finished rows columns parity (now (found .entry)) (now (out .exit)) (now (marks .exit)) (r .answer) (r .passes)) ⌝ }
 {
     let mut faulty = [0u16; 1024];
-    reading::read_all(table, found, out, marks, lacks, &mut faulty, rows, columns);
+    first_reading::read_all(table, found, out, marks, lacks, &mut faulty, rows, columns);
     let passes = passes::run_passes(table, out, marks, lacks, &mut faulty, rows, columns);
     let answer = answer_after(rows, columns, lacks, &faulty);
     Repaired { answer, passes }

@@ -5,9 +5,8 @@ ghost use Rattle.scheme.specs.Layer.{readLine};
 ghost use Rattle.scheme.specs.Repair.{pass};
 ghost use Rattle.rectangle.specs.Store.{lineLayer};
 ghost use Rattle.line_table.specs.Table.{lineTable};
-ghost use Rattle.mending.specs.Lent.{Ready, Makes};
+ghost use Rattle.groups.specs.Lent.{Ready, Makes};
 ghost use Rattle.repair.specs.Lent.{allGroups, RanPasses};
-use mending::group;
 use mending::visit;
 
 // All groups are visited; one without a faulty line costs a look at its count.
@@ -28,7 +27,7 @@ pub fn visit_all(
     let mut k = 0;
     while k < groups {
         if faulty[k] != 0 {
-            let chosen = group::choose(rows, columns, k);
+            let chosen = groups::choose(rows, columns, k);
             visit::visit_group(table, out, marks, lacks, faulty, rows, columns, chosen);
         }
         k += 1;
@@ -50,11 +49,11 @@ pub fn run_passes(
     ensures { λ r. ⌜ RanPasses rows columns (now (out .entry)) (now (marks .entry)) (now (lacks .entry)) (now (faulty .entry)) (now (out .exit)) (now (marks .exit)) (now (lacks .exit)) (now (faulty .exit)) r ⌝ }
 {
     let mut passes: usize = 0;
-    let mut before = group::count_faulty(rows, faulty);
+    let mut before = groups::count_faulty(rows, faulty);
     while 0 < before {
         visit_all(table, out, marks, lacks, faulty, rows, columns);
         passes += 1;
-        let left = group::count_faulty(rows, faulty);
+        let left = groups::count_faulty(rows, faulty);
         if left == before {
             return passes;
         }

@@ -2,7 +2,7 @@
 use borrow.Author.Needs.{needs}
 use native.Mathlib.Omega.{arith}
 use mathlib.Core.Path.{subst}
-use Rattle.mending.specs.Lent.{Carried}
+use Rattle.groups.specs.Lent.{Carried}
 use Rattle.mending.proofs.Settling.{still-inside, only-inside, only-faulty, word-long, rebuilt-is, settled, unsettled}
 use Rattle.mending.proofs.visit.settle_group.Statement.{statement}
 use Rattle.mending.proofs.visit.settle_group.Tie as tie

@@ -8,9 +8,10 @@ use lib.ListN.{length, take, getD}
 use lib.Seq.{getD-take}
 use Rattle.linecode.proofs.Bytes.{array-length}
 use Rattle.rectangle.specs.Store.{bytesAt}
-use Rattle.mending.specs.Lent.{Room, Some}
-use Rattle.mending.proofs.Walk.{walk-in, walk-small}
-use Rattle.mending.proofs.Trying.{Searching, searching-start, searching-next, searching-failed, searching-found, tried-line, tried-long, Trying, trying-start, trying-some, trying-other, trying-failed, trying-mended, trying-end, four, retry, recarry, same-room, tries-length}
+use Rattle.groups.specs.Lent.{Room, Some}
+use Rattle.groups.proofs.Walk.{walk-in, walk-small}
+use Rattle.mending.proofs.Trying.{Searching, searching-start, searching-next, searching-failed, searching-found, tried-line, tried-long, Trying, trying-start, trying-some, trying-other, trying-failed, trying-mended, trying-end, four, retry, recarry, tries-length}
+use Rattle.groups.proofs.Rooms.{same-room}
 use Rattle.mending.proofs.visit.trial.Statement.{statement}
 use Rattle.mending.proofs.visit.trial.Tie as tie
 

@@ -1,7 +1,7 @@
 -- `mending::visit::visit_group` meets its contract.
 use borrow.Author.Needs.{needs}
 use Rattle.scheme.specs.Visit.{visit}
-use Rattle.mending.proofs.Trying.{same-room}
+use Rattle.groups.proofs.Rooms.{same-room}
 use Rattle.mending.proofs.visit.visit_group.Statement.{statement}
 use Rattle.mending.proofs.visit.visit_group.Tie as tie
 

@@ -8,7 +8,7 @@ use borrow.Author.Tests.{not-true, not-false}
 use Rattle.linecode.specs.Places.{places}
 use Rattle.linecode.specs.Code.{isCorrect}
 use Rattle.rectangle.specs.Store.{placesAt}
-use Rattle.mending.proofs.Checking.{Checked, checked-start, checked-next, checked-failed, checked-end}
+use Rattle.groups.proofs.Checking.{Checked, checked-start, checked-next, checked-failed, checked-end}
 use Rattle.repair.proofs.parity.columns_correct.Statement.{statement}
 use Rattle.repair.proofs.parity.columns_correct.Tie as tie
 

@@ -2,7 +2,7 @@
 use native.Mathlib.Omega.{arith}
 use mathlib.Core.Path.{sym, _∙_}
 use native.Mathlib.Nat.{mul-le-mul-right}
-use Rattle.mending.proofs.Trying.{same-room}
+use Rattle.groups.proofs.Rooms.{same-room}
 use Rattle.repair.proofs.Running.{Running, running-start, running-some, running-end, running-idle, running-less, running-next}
 use Rattle.repair.proofs.passes.run_passes.Statement.{statement}
 use Rattle.repair.proofs.passes.run_passes.Tie as tie

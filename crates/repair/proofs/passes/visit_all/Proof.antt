@@ -3,8 +3,8 @@ use native.Mathlib.Omega.{arith}
 use mathlib.Core.Path.{_≡_, refl, sym, _∙_}
 use mathlib.Core.Logic.{⊎-elim}
 use Prim.Native.Nat.{_+_, _-_}
-use Rattle.mending.proofs.Numbers.{renumber}
-use Rattle.mending.proofs.Trying.{same-room}
+use Rattle.groups.proofs.Numbers.{renumber}
+use Rattle.groups.proofs.Rooms.{same-room}
 use Rattle.repair.proofs.Passing.{Passing, passing-start, passing-some, passing-next, passing-idle, passing-end, repass}
 use Rattle.repair.proofs.passes.visit_all.Statement.{statement}
 use Rattle.repair.proofs.passes.visit_all.Tie as tie

@@ -1,0 +1,105 @@
+-- `first_reading::add_piece` meets its contract: after i turns i lines of the piece are added.
+use native.Mathlib.Omega.{arith}
+use mathlib.Core.Path.{sym, _∙_}
+use mathlib.Core.Logic.{⊎-elim}
+use Prim.Native.Nat.{_-_}
+use Rattle.first_reading.proofs.Adding.{Adding, adding-start, adding-place, adding-faulty, adding-other, adding-end}
+use Rattle.first_reading.proofs.add_piece.Statement.{statement}
+use Rattle.first_reading.proofs.add_piece.Tie as tie
+
+abbrev Inv-loop : tie.InvT-loop
+Inv-loop out marks lacks₀ faulty₀ rows n c count difference₀ hurt₀ i₀ lacks faulty difference hurt i =
+    Adding rows out marks lacks₀ faulty₀ n c count difference₀ hurt₀ lacks faulty difference hurt i
+
+abbrev μ-loop : tie.MeasureT-loop
+μ-loop out marks lacks₀ faulty₀ rows n c count difference₀ hurt₀ i₀ lacks faulty difference hurt i = count - i
+
+loop-holds : tie.Need-loop-holds Inv-loop μ-loop
+loop-holds c = adding-start _ _ _ _ _ _ _ _ _ _ (c .before .before .before .before .before .pre)
+
+add-m : tie.Need-add-m Inv-loop μ-loop
+add-m c = omega (arith, adding-place _ _ _ _ _ _ _ _ _ _ _ _ _ _ _ (c .before .loop .inv) (c .loop-test .taken) (c .before .before .before .before .before .before .before .pre) .small)
+
+add-k : tie.Need-add-k Inv-loop μ-loop
+add-k c = omega (arith, adding-place _ _ _ _ _ _ _ _ _ _ _ _ _ _ _ (c .before .loop .inv) (c .loop-test .taken) (c .before .before .before .before .before .before .before .pre) .group)
+
+add-k-2 : tie.Need-add-k-2 Inv-loop μ-loop
+add-k-2 c = omega (arith, adding-place _ _ _ _ _ _ _ _ _ _ _ _ _ _ _ (c .before .loop .inv) (c .loop-test .taken) (c .before .before .before .before .before .before .before .pre) .group)
+
+line-at-requires : tie.Need-line-at-requires Inv-loop μ-loop
+line-at-requires c κs = adding-place _ _ _ _ _ _ _ _ _ _ _ _ _ _ _ (c .before .loop .inv) (c .loop-test .taken) (c .before .before .before .before .before .before .before .pre) .line
+
+xor-bytes-requires : tie.Need-xor-bytes-requires Inv-loop μ-loop
+xor-bytes-requires c κs = tt
+
+add-line-requires : tie.Need-add-line-requires Inv-loop μ-loop
+add-line-requires c κs =
+    omega (arith, adding-place _ _ _ _ _ _ _ _ _ _ _ _ _ _ _ (c .before .before .before .before .loop .inv) (c .before .before .before .loop-test .taken) (c .before .before .before .before .before .before .before .before .before .before .pre) .group, c .before .before .before .before .loop .inv .lackBytes)
+
+shared-slice-read-if1 : tie.Need-shared-slice-read-if1 Inv-loop μ-loop
+shared-slice-read-if1 c = adding-place _ _ _ _ _ _ _ _ _ _ _ _ _ _ _ (c .before .before .before .before .before .before .before .before .loop .inv) (c .before .before .before .before .before .before .before .loop-test .taken) (c .before .before .before .before .before .before .before .before .before .before .before .before .before .before .pre) .mark
+
+add-hurt : tie.Need-add-hurt Inv-loop μ-loop
+add-hurt c = omega (arith, adding-place _ _ _ _ _ _ _ _ _ _ _ _ _ _ _ (c .before .before .before .before .before .before .before .before .before .loop .inv) (c .before .before .before .before .before .before .before .before .loop-test .taken) (c .before .before .before .before .before .before .before .before .before .before .before .before .before .before .before .pre) .ownFew)
+
+mul-faulty : tie.Need-mul-faulty Inv-loop μ-loop
+mul-faulty c = omega (arith, adding-place _ _ _ _ _ _ _ _ _ _ _ _ _ _ _ (c .before .before .before .before .before .before .before .before .before .loop .inv) (c .before .before .before .before .before .before .before .before .loop-test .taken) (c .before .before .before .before .before .before .before .before .before .before .before .before .before .before .before .pre) .group)
+
+slice-read-faulty : tie.Need-slice-read-faulty Inv-loop μ-loop
+slice-read-faulty c =
+    omega (arith, adding-place _ _ _ _ _ _ _ _ _ _ _ _ _ _ _ (c .before .before .before .before .before .before .before .before .before .before .loop .inv) (c .before .before .before .before .before .before .before .before .before .loop-test .taken) (c .before .before .before .before .before .before .before .before .before .before .before .before .before .before .before .before .pre) .group, c .before .before .before .before .before .before .before .before .before .before .loop .inv .counts)
+
+add-faulty : tie.Need-add-faulty Inv-loop μ-loop
+add-faulty c = omega (arith, adding-place _ _ _ _ _ _ _ _ _ _ _ _ _ _ _ (c .before .before .before .before .before .before .before .before .before .before .loop .inv) (c .before .before .before .before .before .before .before .before .before .loop-test .taken) (c .before .before .before .before .before .before .before .before .before .before .before .before .before .before .before .before .pre) .columnFew)
+
+slice-write-faulty : tie.Need-slice-write-faulty Inv-loop μ-loop
+slice-write-faulty c =
+    omega (arith, adding-place _ _ _ _ _ _ _ _ _ _ _ _ _ _ _ (c .before .before .before .before .before .before .before .before .before .before .loop .inv) (c .before .before .before .before .before .before .before .before .before .loop-test .taken) (c .before .before .before .before .before .before .before .before .before .before .before .before .before .before .before .before .pre) .group, c .before .before .before .before .before .before .before .before .before .before .loop .inv .counts)
+
+add-i : tie.Need-add-i Inv-loop μ-loop
+add-i c = omega arith
+
+loop-less : tie.Need-loop-less Inv-loop μ-loop
+loop-less c = omega arith
+
+loop-again : tie.Need-loop-again Inv-loop μ-loop
+loop-again c =
+    ⊎-elim
+    (λ w. adding-faulty _ _ _ _ _ _ _ _ _ _ _ _ _ _ _ (c .before .before .before .before .before .before .before .before .before .loop .inv) (c .before .before .before .before .before .before .before .before .loop-test .taken) _ _ _ (c .before .before .before .before .before .before .before .line-at .ensures) (c .before .before .before .before .add-line .kept .0) (c .before .before .before .before .add-line .ensures) (c .before .before .before .before .before .before .xor-bytes .ensures) _ _ (w .0 .taken) (w .2) (w .3))
+    (λ w. adding-other _ _ _ _ _ _ _ _ _ _ _ _ _ _ _ (c .before .before .before .before .before .before .before .before .before .loop .inv) (c .before .before .before .before .before .before .before .before .loop-test .taken) _ _ _ (c .before .before .before .before .before .before .before .line-at .ensures) (c .before .before .before .before .add-line .kept .0) (c .before .before .before .before .add-line .ensures) (c .before .before .before .before .before .before .xor-bytes .ensures) _ _ (w .0 .left) (w .1) (w .2))
+    (c .if1 .came)
+
+same-length : tie.Need-same-length Inv-loop μ-loop
+same-length c = c .before .loop .inv .lackBytes ∙ sym (c .before .before .before .before .before .before .before .pre .4 .room .lackBytes)
+
+same-length-2 : tie.Need-same-length-2 Inv-loop μ-loop
+same-length-2 c = c .before .loop .inv .counts ∙ sym (c .before .before .before .before .before .before .before .pre .4 .room .counts)
+
+returns : tie.Need-returns Inv-loop μ-loop
+returns c = adding-end _ _ _ _ _ _ _ _ _ _ _ _ _ _ _ (c .before .loop .inv) (c .loop-test .left)
+
+pub add-piece-spec : {M : Type 1} → statement M
+add-piece-spec =
+    tie.close
+    (tie.spec
+    Inv-loop
+    μ-loop
+    loop-holds
+    add-m
+    add-k
+    add-k-2
+    line-at-requires
+    xor-bytes-requires
+    add-line-requires
+    shared-slice-read-if1
+    add-hurt
+    mul-faulty
+    slice-read-faulty
+    add-faulty
+    slice-write-faulty
+    add-i
+    loop-less
+    loop-again
+    same-length
+    same-length-2
+    returns)

@@ -1,0 +1,175 @@
+// The first reading: one sweep over all lines, row after row. Document 01, "Repair".
+// `read_all` is public for `repair`, which has tested or made what it asks; not an entry point.
+ghost use mathlib.Core.Path.{_≡_};
+ghost use mathlib.Core.List.{List, []};
+ghost use Prim.Native.Nat.{ℕ, _+_, _*_, _≤_, _<_};
+ghost use lib.ListN.{length};
+ghost use Rattle.gf2.specs.Word.{Word};
+ghost use Rattle.scheme.specs.Layer.{readLine};
+ghost use Rattle.scheme.specs.Repair.{readAll};
+ghost use Rattle.rectangle.specs.Store.{lineLayer, linesIn};
+ghost use Rattle.line_table.specs.Table.{lineTable};
+ghost use Rattle.groups.specs.Lent.{Room, Tracked, Carried};
+ghost use Rattle.first_reading.specs.Lent.{readFirst, Begun, RowOpen, Piece, SomePiece, ReadUpTo, ReadsOn};
+use linecode::place;
+use rectangle::lines;
+
+// A row whose lines are being added: its difference, and how many of its lines are faulty. They are carried by value, since every line
+// of the row changes them.
+struct OpenRow {
+    difference: [u8; 70],
+    faulty: u16,
+}
+
+// So many lines, at most eight, from line n on are read alone into the line buffer, their marks into the mark buffer.
+fn read_piece(
+    table: &[u64; 4096],
+    found: &[u8],
+    out: &mut [u8],
+    marks: &mut [u8],
+    n: usize,
+    count: usize,
+)
+    requires table { ⌜ now table ≡ lineTable ⌝ }
+    requires inside { ⌜ (n + count ≤ length (now marks)) × (length (now marks) ≤ 262144) × (length (now found) ≡ length (now marks) * 70) × (length (now out) ≡ length (now marks) * 70) × (count ≤ 8) ⌝ }
+    ensures { λ _. ⌜ (Begun (now (out .entry)) (now (marks .entry)) (readFirst (now (found .entry)) n)
+        → Begun (now (out .exit)) (now (marks .exit)) (readFirst (now (found .entry)) (n + count))) ⌝ }
+{
+    let sums = sweep::sums_of_lines(table, found, n, count);
+    let mut i = 0;
+    while i < count {
+        let m = n + i;
+        let mark = lines::read_into(table, sums[i], found, m, out, m);
+        marks[m] = mark;
+        i += 1;
+    }
+}
+
+// The same lines, now in the line buffer, are added to their row's difference and to their columns', which begin at column c; a faulty
+// one counts in both.
+fn add_piece(
+    out: &[u8],
+    marks: &[u8],
+    lacks: &mut [u8],
+    faulty: &mut [u16],
+    rows: usize,
+    n: usize,
+    c: usize,
+    count: usize,
+    row: OpenRow,
+) -> OpenRow
+    requires { ⌜ SomePiece rows (now out) (now marks) (now lacks) (now faulty) n c count (row .difference) (row .faulty) ⌝ }
+    ensures { λ s. ⌜ ((columns : ℕ) (parity : ℕ → Word) (found : List ℕ) (r : ℕ) → Piece rows columns parity found (now (out .entry)) (now (marks .entry)) (now (lacks .entry)) (now (faulty .entry)) r n c count (row .difference) (row .faulty)
+        → RowOpen rows columns parity found (now (lacks .exit)) (now (faulty .exit)) r (n + count) (s .difference) (s .faulty)) ⌝ }
+{
+    let mut difference = row.difference;
+    let mut hurt = row.faulty;
+    let mut i = 0;
+    while i < count {
+        let m = n + i;
+        let k = rows + (c + i);
+        let line = lines::line_at(out, m);
+        let next = place::xor_bytes(difference, line);
+        difference = next;
+        lines::add_line(lacks, k, line);
+        if marks[m] == 4 {
+            hurt += 1;
+            faulty[k] += 1;
+        }
+        i += 1;
+    }
+    OpenRow {
+        difference,
+        faulty: hurt,
+    }
+}
+
+// How many lines make a piece, of those left in the row.
+fn piece(left: usize) -> usize
+    requires { ⌜ 0 < left ⌝ }
+    ensures { λ r. ⌜ (0 < r) × (r ≤ left) × (r ≤ 8) ⌝ }
+{
+    if 8 < left {
+        return 8;
+    }
+    left
+}
+
+// Row r, in pieces, each of whose lines are all summed, then all copied, then all added: so the processor works on several lines at a
+// time, and a piece is no longer than the stores that may wait for the line buffer's memory.
+fn read_row(
+    table: &[u64; 4096],
+    found: &[u8],
+    out: &mut [u8],
+    marks: &mut [u8],
+    lacks: &mut [u8],
+    faulty: &mut [u16],
+    rows: usize,
+    columns: usize,
+    r: usize,
+    first: usize,
+)
+    requires table { ⌜ now table ≡ lineTable ⌝ }
+    requires room { ⌜ Room rows columns (now out) (now marks) (now lacks) (now faulty) ⌝ }
+    requires row { ⌜ (length (now found) ≡ rows * columns * 70) × (r < rows) × (first ≡ r * columns) ⌝ }
+    requires some { ⌜ ((parity : (ℕ → Word)) × ReadUpTo rows columns parity (now found) (now out) (now marks) (now lacks) (now faulty) first) ⌝ }
+    ensures { λ _. ⌜ ReadsOn rows columns (now (found .entry)) (now (out .entry)) (now (marks .entry)) (now (lacks .entry)) (now (faulty .entry)) (now (out .exit)) (now (marks .exit)) (now (lacks .exit)) (now (faulty .exit)) first (first + columns) ⌝ }
+{
+    let mut difference = lines::line_at(lacks, r);
+    let mut hurt = faulty[r];
+    let mut c = 0;
+    while c < columns {
+        let count = piece(columns - c);
+        let n = first + c;
+        read_piece(table, found, out, marks, n, count);
+        let row = OpenRow {
+            difference,
+            faulty: hurt,
+        };
+        let next = add_piece(out, marks, lacks, faulty, rows, n, c, count, row);
+        let sum = next.difference;
+        difference = sum;
+        hurt = next.faulty;
+        c += count;
+    }
+    lines::put_line(lacks, r, difference);
+    faulty[r] = hurt;
+}
+
+// All rows are read.
+pub fn read_all(
+    table: &[u64; 4096],
+    found: &[u8],
+    out: &mut [u8],
+    marks: &mut [u8],
+    lacks: &mut [u8],
+    faulty: &mut [u16],
+    rows: usize,
+    columns: usize,
+)
+    requires table { ⌜ now table ≡ lineTable ⌝ }
+    requires room { ⌜ Room rows columns (now out) (now marks) (now lacks) (now faulty) ⌝ }
+    requires lines { ⌜ length (now found) ≡ rows * columns * 70 ⌝ }
+    requires some { ⌜ ((parity : (ℕ → Word)) × Tracked rows columns parity (now lacks) (now faulty) []) ⌝ }
+    ensures { λ _. ⌜ ((parity : ℕ → Word) → Tracked rows columns parity (now (lacks .entry)) (now (faulty .entry)) []
+        → Carried rows columns parity (now (out .exit)) (now (marks .exit)) (now (lacks .exit)) (now (faulty .exit)) (readAll (readLine lineLayer) 0 (linesIn (rows * columns) (now (found .entry))))) ⌝ }
+{
+    let mut first = 0;
+    let mut r = 0;
+    while r < rows {
+        read_row(
+            table,
+            found,
+            out,
+            marks,
+            lacks,
+            faulty,
+            rows,
+            columns,
+            r,
+            first,
+        );
+        first += columns;
+        r += 1;
+    }
+}

@@ -1,0 +1,11 @@
+-- Laws of groups on lent buffers.
+pub mod Walk
+pub mod Seeking
+pub mod Checking
+pub mod Numbers
+pub mod Held
+pub mod Rooms
+pub mod Added
+pub mod Busy
+pub mod Listing
+pub mod Beside
