@@ -1,4 +1,5 @@
-// The CRC of a line's data, by the tables that are compiled in. Public for the crate's other modules.
+// The CRC of a line's data, by the tables that are compiled in. Public for the crate's other modules; the module
+// is private.
 use crate::tables;
 use linecode::crc::stored;
 ghost use mathlib.Core.Path.{_≡_};
