@@ -1,5 +1,6 @@
 -- Laws of the SuDoku steps, over any list of groups: accepted lines stay (Stays), the passes (Passes), demand 3 (ExactReturn,
 -- NotAlike), and what these rest on.
+pub mod Case
 pub mod Lists
 pub mod Words
 pub mod Sums
