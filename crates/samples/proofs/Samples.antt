@@ -1,4 +1,5 @@
--- Every starred sample follows from the rules: one theorem over the table, by computation from the definitions.
+-- Every starred sample follows from the rules: one theorem over the table, by computation from the definitions. The other cases are
+-- computed apart: a theorem may take so many steps and no more.
 use lib.Dec.{T}
 use Rattle.gf2.specs.Generator.{generator, generatorPolynomial}
 use Rattle.linecode.specs.Places.{dataPlaces, protectedPlaces, hammingPlaces, linePlaces, lineBytes, places, lineOf}
@@ -10,8 +11,12 @@ use Rattle.scheme.specs.Repair.{passesFrom, repair, answer}
 use Rattle.rectangle.specs.Store.{readUnder, correctUnder, bytesAt, placesAt, linesIn, row, column, groups}
 use Rattle.rectangle.specs.Refusals.{sideFits, sidesFit, holds, tablesFit, parityCorrect, repairRefusal}
 use Rattle.rectangle.specs.Repair.{repaired, handedOver, repairStore}
-use Rattle.samples.specs.Samples.{clean, hurt, last, repairedStore, samples, all}
+use Rattle.samples.specs.Samples.{clean, hurt, last, repairedStore, samples, cases, all}
 
 pub samples-hold : T (all samples)
 unfolding generator generatorPolynomial dataPlaces protectedPlaces hammingPlaces linePlaces lineBytes places lineOf protected dataOf accepted hammingColumns positions hamming withCrc withHamming codeword isCorrect columns syndrome naming answerTo placeOf readAlone written rebuild settle mismatch trial visit passesFrom repair answer readUnder correctUnder bytesAt placesAt linesIn row column groups sideFits sidesFit holds tablesFit parityCorrect repairRefusal repaired handedOver repairStore clean hurt last repairedStore
 samples-hold = tt
+
+pub cases-hold : T (all cases)
+unfolding generator generatorPolynomial dataPlaces protectedPlaces hammingPlaces linePlaces lineBytes places lineOf protected dataOf accepted hammingColumns positions hamming withCrc withHamming codeword isCorrect columns syndrome naming answerTo placeOf readAlone written rebuild settle mismatch trial visit passesFrom repair answer readUnder correctUnder bytesAt placesAt linesIn row column groups sideFits sidesFit holds tablesFit parityCorrect repairRefusal repaired handedOver repairStore clean hurt last repairedStore
+cases-hold = tt
