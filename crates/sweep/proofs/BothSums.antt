@@ -50,6 +50,20 @@ module _ (w : Word) (s : ℕ) (e : s ≡ bothSums w) where
         λ h. (q, omega arith),
       )
 
+  -- its lower half is the sum of positions either way
+  pub lower-half : s % 65536 ≡ columnSum positions (protected w)
+  lower-half = go (accepted w) refl
+    where
+      go : (b : Bool) → accepted w ≡ b → s % 65536 ≡ columnSum positions (protected w)
+      go true q =
+          let whole = e ∙ sums-when w true q in
+          let small = position-sum-lt (protected w) in
+          omega arith
+      go false q =
+          let whole = e ∙ sums-when w false q in
+          let small = position-sum-lt (protected w) in
+          omega arith
+
   pub below : s < 65536 → (accepted w ≡ true) × (s ≡ columnSum positions (protected w))
   below = by-test (accepted w) refl .0
 

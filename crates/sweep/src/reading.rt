@@ -32,7 +32,7 @@ fn read_hurt(table: &[u64; 4096], line: [u8; 70], sum: u16) -> Reading
     let again = sums_of(table, flipped);
     if again < 65536 {
         return Reading {
-            line: hamming::with_bits(flipped, again as u16),
+            line: hamming::with_bits(flipped, (again % 65536) as u16),
             mark: 1,
         };
     }

@@ -13,7 +13,7 @@ use Rattle.linecode.proofs.Bytes.{array-length}
 use Rattle.linecode.proofs.Line.{length-places}
 use Rattle.linecode.proofs.Syndrome.{syndrome-parts}
 use Rattle.linecode.proofs.ReadAlone.{unnamed, second-look, in-bytes}
-use Rattle.sweep.proofs.BothSums.{below, above}
+use Rattle.sweep.proofs.BothSums.{lower-half, below, above}
 use Rattle.sweep.proofs.reading.read_hurt.Statement.{statement}
 use Rattle.sweep.proofs.reading.read_hurt.Tie as tie
 
@@ -68,7 +68,7 @@ cast-with-bits : tie.Need-cast-with-bits
 cast-with-bits c = omega arith
 
 with-bits-requires : tie.Need-with-bits-requires
-with-bits-requires c κs = below _ _ (c .before .sums-of .ensures) (c .if1 .taken) .1
+with-bits-requires c κs = lower-half _ _ (c .before .sums-of .ensures)
 
 returns-2 : tie.Need-returns-2
 returns-2 c =
