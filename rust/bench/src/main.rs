@@ -181,7 +181,7 @@ fn several(count: usize) -> ExitCode {
     match runs::several(count, rows().len()) {
         Ok(given) => {
             println!(
-                "{count} runs of {ROUNDS} rounds; in brackets the least and the greatest run:\n"
+                "{count} runs of at most {ROUNDS} rounds; in brackets the least and the greatest run:\n"
             );
             print(&given, Range::Whole);
             ExitCode::SUCCESS
@@ -198,7 +198,9 @@ fn main() -> ExitCode {
     let words: Vec<&str> = words.iter().map(String::as_str).collect();
     match words[..] {
         [] => {
-            println!("One run of {ROUNDS} rounds; in brackets the quartiles of the rounds:\n");
+            println!(
+                "One run of at most {ROUNDS} rounds; in brackets the quartiles of the rounds:\n"
+            );
             print(&run(), Range::Quartiles);
             ExitCode::SUCCESS
         }
