@@ -1,6 +1,6 @@
 #!/bin/sh
 # The launcher and the program as people use them: the examples, bad calls, input in pieces, how much is read, input and output
-# that fail, and building.
+# that fail, the examples of docs/FORMAT.md, and building.
 set -u
 cd "$(dirname "$0")/.."
 room=$(mktemp -d)
@@ -107,6 +107,22 @@ if [ "$(id -u)" -ne 0 ]; then
     same "a file without permission" "1 storecheck: '$room/secret' cannot be read, 0 bytes" "$(ended $?)"
 fi
 same "a file where input is closed" "$(cat examples/hurt.report)" "$(bin/storecheck examples/hurt.store <&-)"
+
+# The examples of docs/FORMAT.md: its header before zero bytes, and its line as the first of such a store and of both its tables.
+bytes() { # WHAT STANDS BEFORE THE OFFSET
+    for byte in $(sed -n "s/^    $1[0-9A-F][0-9A-F]:\\(\\( [0-9A-F][0-9A-F]\\)*\\).*/\\1/p" docs/FORMAT.md); do
+        printf "\\$(printf '%03o' "0x$byte")"
+    done
+}
+bytes "" >"$room/header"
+bytes "line " >"$room/line"
+same "how long the examples of docs/FORMAT.md are" "28 70" "$(wc -c <"$room/header") $(wc -c <"$room/line")"
+head -c 560 /dev/zero | cat "$room/header" - >"$room/zero"
+same "a store of zero bytes after it" "$(cat crates/storecheck/stdout)" "$(bin/storecheck "$room/zero")"
+head -c 210 /dev/zero >"$room/210"
+head -c 70 /dev/zero >"$room/70"
+cat "$room/header" "$room/line" "$room/210" "$room/line" "$room/70" "$room/line" "$room/70" >"$room/caption"
+same "the line of docs/FORMAT.md" "$(cat crates/storecheck/stdout)" "$(bin/storecheck "$room/caption")"
 
 # Building, with a toolchain that only says what it would: each of its lines is shown, and its status counts.
 mkdir -p "$room/copy/bin" "$room/copy/crates" "$room/tools"
