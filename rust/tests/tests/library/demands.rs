@@ -1,4 +1,5 @@
-//! Demand 3 as a property, and all pairs of places of one line.
+//! Demand 3 as a property, damage beyond it, and all pairs of places of one
+//! line.
 
 use library_tests::{Interface, Library, cases, seed};
 use reference::draw::{self, Store};
@@ -66,6 +67,116 @@ fn demand_3_on_long_orders() {
         let (answer, passes, lines, _) = repaired(&hurt);
         assert_eq!((answer, passes), (0, 1));
         assert!(lines == written.lines);
+    }
+}
+
+/// Places that, set alone, are a correct line: no two correct lines differ in
+/// fewer.
+const EIGHT: [usize; 8] = [2, 210, 264, 384, 431, 441, 459, 480];
+
+/// Some of these places.
+fn some_of_eight(taken: impl Fn(usize) -> bool) -> Vec<usize> {
+    let taken = EIGHT.iter().enumerate().filter(|&(i, _)| taken(i));
+    taken.map(|(_, &place)| place).collect()
+}
+
+#[test]
+fn a_line_on_the_way_to_another() {
+    let line = draw::correct_line(&mut Random::new(seed()));
+    let mut other = line;
+    draw::flip(&mut other, &EIGHT);
+    for taken in 0..256 {
+        let places = some_of_eight(|i| taken >> i & 1 == 1);
+        let mut found = line;
+        draw::flip(&mut found, &places);
+        let mut out = [0xEE; LINE_BYTES];
+        let read = Library.read_line(&found, &mut out);
+        let expected = match places.len() {
+            0 => (0, 0, line),
+            1 => (0, 1, line),
+            2..=6 => (10, 4, found),
+            7 => (0, 1, other),
+            _ => (0, 0, other),
+        };
+        assert_eq!((read.0, read.1, out), expected, "places {places:?}");
+    }
+}
+
+#[test]
+fn up_to_five_damaged_bits_no_line_is_wrong() {
+    // No order is asked for: lines may be given up, but none is mended into
+    // another.
+    let mut random = Random::new(seed());
+    let mut by_mark = [0; 5];
+    for case in 0..cases(5_000) {
+        let (rows, columns) = draw::sides(&mut random, 2 + case % 6);
+        let written = Store::random(&mut random, rows, columns);
+        let mut hurt = written.clone();
+        for n in 0..hurt.count() {
+            let taken = random.below(256);
+            let mut places = match random.below(3) {
+                0 => vec![],
+                1 => draw::places(&mut random, 5),
+                _ => some_of_eight(|i| taken >> i & 1 == 1),
+            };
+            places.truncate(random.between(1, 5));
+            hurt.hurt(n, &places);
+        }
+        let (answer, _, lines, marks) = repaired(&hurt);
+        for (n, line) in lines.chunks(LINE_BYTES).enumerate() {
+            let from = if marks[n] == 4 { &hurt } else { &written };
+            assert_eq!(line, from.line(n), "case {case}, line {n}");
+            by_mark[usize::from(marks[n])] += 1;
+        }
+        assert_eq!(answer, if marks.contains(&4) { 11 } else { 0 });
+    }
+    println!("up to five damaged bits: lines by mark {by_mark:?}");
+    assert!(by_mark.iter().all(|&lines| lines > 0));
+}
+
+#[test]
+fn past_five_damaged_bits_a_line_may_be_wrong() {
+    let written = Store::zero(2, 2);
+    let hurt = |lines: &[(usize, &[usize])]| {
+        let mut store = written.clone();
+        for &(n, places) in lines {
+            store.hurt(n, places);
+        }
+        store
+    };
+    let cases = [
+        // Eight bits of a line, and seven: it is taken for another.
+        (
+            hurt(&[(0, &EIGHT)]),
+            (12, 0, hurt(&[(0, &EIGHT)]), [0, 0, 0, 0]),
+        ),
+        (
+            hurt(&[(0, &EIGHT[..7])]),
+            (12, 0, hurt(&[(0, &EIGHT)]), [1, 0, 0, 0]),
+        ),
+        // Six, and the line beside it is hurt at the seventh place: a trial
+        // there takes, and the other line is rebuilt from it.
+        (
+            hurt(&[(0, &EIGHT[..6]), (1, &EIGHT[3..7])]),
+            (12, 1, hurt(&[(0, &EIGHT), (1, &EIGHT)]), [2, 3, 0, 0]),
+        ),
+        // Four lines that cancel in all rows and columns: nothing tells.
+        (
+            hurt(&[(0, &EIGHT), (1, &EIGHT), (2, &EIGHT), (3, &EIGHT)]),
+            (
+                0,
+                0,
+                hurt(&[(0, &EIGHT), (1, &EIGHT), (2, &EIGHT), (3, &EIGHT)]),
+                [0; 4],
+            ),
+        ),
+    ];
+    for (i, (store, expected)) in cases.into_iter().enumerate() {
+        let (answer, passes, lines, marks) = repaired(&store);
+        let (right, times, wrong, marked) = expected;
+        assert_eq!((answer, passes), (right, times), "case {i}");
+        assert_eq!(marks, marked, "case {i}");
+        assert!(lines == wrong.lines, "case {i}");
     }
 }
 
