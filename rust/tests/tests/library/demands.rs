@@ -180,6 +180,34 @@ fn past_five_damaged_bits_a_line_may_be_wrong() {
     }
 }
 
+#[test]
+fn a_damaged_parity_line_is_refused_or_gone_by() {
+    let written = Store::zero(2, 2);
+    for taken in 1..256 {
+        let places = some_of_eight(|i| taken >> i & 1 == 1);
+        let mut hurt = written.clone();
+        draw::flip(&mut hurt.row_table, &places);
+        let (answer, _, lines, marks) = repaired(&hurt);
+        if places.len() < 8 {
+            assert_eq!(answer, 9, "places {places:?}");
+            assert!(lines.iter().chain(&marks).all(|&byte| byte == 0x5A));
+        } else {
+            assert_eq!((answer, marks), (12, vec![0; 4]));
+        }
+    }
+    // Both parity lines of line 0 are those of another line: it is rebuilt as
+    // that one, and nothing tells.
+    let mut hurt = written.clone();
+    draw::flip(&mut hurt.row_table, &EIGHT);
+    draw::flip(&mut hurt.column_table, &EIGHT);
+    hurt.hurt(0, &[0, 1]);
+    let (answer, passes, lines, marks) = repaired(&hurt);
+    assert_eq!((answer, passes, marks), (0, 1, vec![3, 0, 0, 0]));
+    let mut other = written.clone();
+    other.hurt(0, &EIGHT);
+    assert!(lines == other.lines);
+}
+
 /// Reads one line alone with every pair of its places hurt.
 ///
 /// Two Hamming bits: the line comes back. Any other pair: it is faulty, and
