@@ -74,10 +74,11 @@ fn demand_3_on_long_orders() {
 /// fewer.
 const EIGHT: [usize; 8] = [2, 210, 264, 384, 431, 441, 459, 480];
 
-/// Some of these places.
-fn some_of_eight(taken: impl Fn(usize) -> bool) -> Vec<usize> {
-    let taken = EIGHT.iter().enumerate().filter(|&(i, _)| taken(i));
-    taken.map(|(_, &place)| place).collect()
+/// Those of them whose bit is set.
+fn some_of_eight(bits: usize) -> Vec<usize> {
+    let all = EIGHT.iter().enumerate();
+    let set = all.filter(|&(i, _)| bits >> i & 1 == 1);
+    set.map(|(_, &place)| place).collect()
 }
 
 #[test]
@@ -85,8 +86,8 @@ fn a_line_on_the_way_to_another() {
     let line = draw::correct_line(&mut Random::new(seed()));
     let mut other = line;
     draw::flip(&mut other, &EIGHT);
-    for taken in 0..256 {
-        let places = some_of_eight(|i| taken >> i & 1 == 1);
+    for bits in 0..256 {
+        let places = some_of_eight(bits);
         let mut found = line;
         draw::flip(&mut found, &places);
         let mut out = [0xEE; LINE_BYTES];
@@ -113,11 +114,10 @@ fn up_to_five_damaged_bits_no_line_is_wrong() {
         let written = Store::random(&mut random, rows, columns);
         let mut hurt = written.clone();
         for n in 0..hurt.count() {
-            let taken = random.below(256);
             let mut places = match random.below(3) {
                 0 => vec![],
                 1 => draw::places(&mut random, 5),
-                _ => some_of_eight(|i| taken >> i & 1 == 1),
+                _ => some_of_eight(random.below(256)),
             };
             places.truncate(random.between(1, 5));
             hurt.hurt(n, &places);
@@ -144,47 +144,35 @@ fn past_five_damaged_bits_a_line_may_be_wrong() {
         }
         store
     };
+    let all = hurt(&[(0, &EIGHT), (1, &EIGHT), (2, &EIGHT), (3, &EIGHT)]);
+    let one = hurt(&[(0, &EIGHT)]);
+    let seven = hurt(&[(0, &EIGHT[..7])]);
+    // Beside a line of six, one that is hurt at the seventh place.
+    let six = hurt(&[(0, &EIGHT[..6]), (1, &EIGHT[3..7])]);
+    let two = hurt(&[(0, &EIGHT), (1, &EIGHT)]);
+
+    // What is found, and what repair makes of it.
     let cases = [
-        // Eight bits of a line, and seven: it is taken for another.
-        (
-            hurt(&[(0, &EIGHT)]),
-            (12, 0, hurt(&[(0, &EIGHT)]), [0, 0, 0, 0]),
-        ),
-        (
-            hurt(&[(0, &EIGHT[..7])]),
-            (12, 0, hurt(&[(0, &EIGHT)]), [1, 0, 0, 0]),
-        ),
-        // Six, and the line beside it is hurt at the seventh place: a trial
-        // there takes, and the other line is rebuilt from it.
-        (
-            hurt(&[(0, &EIGHT[..6]), (1, &EIGHT[3..7])]),
-            (12, 1, hurt(&[(0, &EIGHT), (1, &EIGHT)]), [2, 3, 0, 0]),
-        ),
-        // Four lines that cancel in all rows and columns: nothing tells.
-        (
-            hurt(&[(0, &EIGHT), (1, &EIGHT), (2, &EIGHT), (3, &EIGHT)]),
-            (
-                0,
-                0,
-                hurt(&[(0, &EIGHT), (1, &EIGHT), (2, &EIGHT), (3, &EIGHT)]),
-                [0; 4],
-            ),
-        ),
+        // The line is taken for another.
+        (&one, 12, 0, &one, [0, 0, 0, 0]),
+        (&seven, 12, 0, &one, [1, 0, 0, 0]),
+        // A trial at that place takes, and the other line is rebuilt from it.
+        (&six, 12, 1, &two, [2, 3, 0, 0]),
+        // All cancel in their rows and columns: nothing tells.
+        (&all, 0, 0, &all, [0, 0, 0, 0]),
     ];
-    for (i, (store, expected)) in cases.into_iter().enumerate() {
-        let (answer, passes, lines, marks) = repaired(&store);
-        let (right, times, wrong, marked) = expected;
-        assert_eq!((answer, passes), (right, times), "case {i}");
-        assert_eq!(marks, marked, "case {i}");
-        assert!(lines == wrong.lines, "case {i}");
+    for (i, (found, answer, passes, given, marks)) in cases.into_iter().enumerate() {
+        let repaired = repaired(found);
+        let expected = (answer, passes, given.lines.clone(), marks.to_vec());
+        assert!(repaired == expected, "case {i}");
     }
 }
 
 #[test]
 fn a_damaged_parity_line_is_refused_or_gone_by() {
     let written = Store::zero(2, 2);
-    for taken in 1..256 {
-        let places = some_of_eight(|i| taken >> i & 1 == 1);
+    for bits in 1..256 {
+        let places = some_of_eight(bits);
         let mut hurt = written.clone();
         draw::flip(&mut hurt.row_table, &places);
         let (answer, _, lines, marks) = repaired(&hurt);
