@@ -146,6 +146,11 @@ same "what its log has" "fn one::first: proved" "$(head -n 1 "$room/copy/target/
 same "a program that is built first" "0 one proved (1 s);ok, 1 crates proved;" "$(built "$PWD/target/bin/storecheck")"
 same "the report of a program built first" "$(cat examples/hurt.report)" "$(cat "$room/out")"
 same "a program that is there" "0 " "$(built "")"
+for way in 'kill -9 $$' 'echo "store 4 4"; kill -9 $$' 'exit 0'; do
+    printf '#!/bin/sh\n%s\n' "$way" >"$room/copy/target/bin/storecheck"
+    "$room/copy/bin/storecheck" examples/hurt.store >"$room/out" 2>"$room/said"
+    same "a program that ends by '$way'" "1 storecheck: the program ended without its report" "$? $(tail -n 1 "$room/said")"
+done
 
 echo "$checks checks of storecheck, $wrong wrong"
 [ "$wrong" -eq 0 ]
