@@ -9,15 +9,25 @@
  * 512. Line n has row n / columns and column n % columns, and stands at byte 70 * n. The row table holds a parity line for each
  * row, the column table one for each column: the exclusive or of that row's or column's lines.
  *
- * What a caller owes:
- * - A pointer and the length after it name that many bytes, which the caller may read, or write where they are not const. A
- *   null pointer goes with length 0 only. Any length may be handed in: a wrong one is refused and nothing is written.
+ * What a caller owes, since no function can test it:
+ * - The length after a pointer is the buffer's true length: so many bytes may be read, and written where they are not const. Any
+ *   true length may be handed in; one that the call cannot use is refused. A null pointer goes with length 0 only.
  * - `mark` and `passes` are not null. They are returned values: every call sets them, to 0 on refusals but for one, below.
  * - Writable buffers, `mark` and `passes` among them, overlap nothing else that is handed in. Buffers that are only read may
  *   overlap each other.
+ * - Making tables and repair need about 110 kB of stack, whatever the size of the rectangle; the other calls less than 2 kB.
  *
- * Calls keep no state and allocate nothing, so threads may call at once, each on writable buffers of its own. Making tables and
- * repair need about 110 kB of stack, whatever the size of the rectangle.
+ * What a caller should know:
+ * - After a refusal the buffers are as they were: what stands in `out` or `marks` is no result. Test the answer first.
+ * - After SUDOKU_LEFT (11) the lines with mark 4 are damaged, as found.
+ * - After SUDOKU_DIFFERS (12) trust no line: none is faulty, but some parity line disagrees. Some line may be wrong, and nothing
+ *   tells which.
+ * - After SUDOKU_DONE the lines of a repair are those written, if both tables are undamaged and no line had more than five damaged
+ *   bits. What holds beyond that is in README.md.
+ * - Lines and tables of zero bytes are a valid store, all lines and parity lines correct. Memory that was cleared cannot be told
+ *   from a store of empty captions.
+ *
+ * Calls keep no state and allocate nothing, so threads may call at once, each on writable buffers of its own.
  *
  * Example: a caption is stored, two of its bits are hurt, and repair brings it back.
  *
@@ -63,9 +73,9 @@ extern "C" {
 #define SUDOKU_GREATEST_SIDE 512
 
 /*
- * Answers. A call gives the first that fits in this order; 0 if none does. Those from 2 to 10 are refusals: nothing is written,
- * and a returned value is 0. One differs: sudoku_read_line's 10, which gives the line as found and mark 4. With 11 and 12 the
- * lines, the marks and the passes are given as with 0. (Numbers 1, 3 and 4 are about store files and come from no call here.)
+ * Answers. A call gives the first that fits in this order; 0 if none does. Those from 2 to 10 are refusals: all buffers are as they
+ * were, and a returned value is 0. One differs: sudoku_read_line's 10, which gives the line as found and mark 4. With 11 and 12
+ * the lines, the marks and the passes are given as with 0. (Numbers 1, 3 and 4 are about store files and come from no call here.)
  */
 enum sudoku_answer {
     SUDOKU_DONE = 0,    /* done */
@@ -77,7 +87,7 @@ enum sudoku_answer {
     SUDOKU_PARITY = 9,  /* a parity line is not a correct line (its spare bits do not count) */
     SUDOKU_FAULTY = 10, /* a line to be read alone, changed or summed into tables is faulty */
     SUDOKU_LEFT = 11,   /* repair: faulty lines are left after the last pass */
-    SUDOKU_DIFFERS = 12 /* repair: no line is faulty, but some parity line differs from that of the repaired lines */
+    SUDOKU_DIFFERS = 12 /* repair: no line is faulty, but some parity line differs from that of the repaired lines: trust no line */
 };
 
 /* Marks: what became of a line. Reading alone gives 0, 1 or 4. */
@@ -105,7 +115,8 @@ uint32_t sudoku_write_line(const uint8_t *data, size_t data_len, uint8_t *line, 
 uint32_t sudoku_read_line(const uint8_t *line, size_t line_len, uint8_t *out, size_t out_len, uint8_t *mark);
 
 /*
- * Makes both parity tables from the lines, each as it reads alone.
+ * Makes both parity tables from the lines, each as it reads alone. The lines then count as written, right or wrong: tables made
+ * anew hide what repair's 12 tells.
  *
  * Answers: 0; 2; 5; 6; 10 if any line is faulty.
  */
@@ -114,7 +125,7 @@ uint32_t sudoku_make_tables(size_t rows, size_t columns, const uint8_t *lines, s
 
 /*
  * Writes line `n` anew from 64 data bytes and changes its two parity lines with it; no other byte changes. The old line counts
- * as it reads alone.
+ * as it reads alone. Other lines and parity lines are not looked at: where they disagreed, they still do.
  *
  * Answers: 0; 2; 5; 6; 7 if `data_len` is not 64; 8; 9 if one of the line's own two parity lines is not correct; 10 if the line
  * is faulty.
@@ -126,10 +137,10 @@ uint32_t sudoku_change_line(size_t rows, size_t columns, uint8_t *lines, size_t 
 /*
  * Repairs a rectangle: reads lines and tables, writes the repaired lines into `out` (rows * columns * 70 bytes) and a mark for
  * each line into `marks` (rows * columns bytes), and sets `passes`: 0 if every line reads alone, and never more than the lines
- * that do not.
+ * that do not. Lines and tables that are handed in stay as they are.
  *
- * Answers: 0, 11 and 12, all with lines, marks and passes; 2; 5; 6; 7 if `out_len` or `marks_len` is another; 9 if any parity
- * line is not correct.
+ * Answers: 0; 11, some lines have mark 4 and are as found; 12, trust no line; all three with lines, marks and passes. 2; 5; 6; 7 if
+ * `out_len` or `marks_len` is another; 9 if any parity line is not correct: `out` and `marks` are then as before.
  */
 uint32_t sudoku_repair(size_t rows, size_t columns, const uint8_t *lines, size_t lines_len,
                        const uint8_t *row_table, size_t row_len, const uint8_t *column_table, size_t column_len,

@@ -1,5 +1,6 @@
 #!/bin/sh
-# The launcher and the program as people use them: the examples, bad calls, input in pieces, and how much is read.
+# The launcher and the program as people use them: the examples, bad calls, input in pieces, how much is read, input and output
+# that fail, the examples of docs/FORMAT.md, and building.
 set -u
 cd "$(dirname "$0")/.."
 room=$(mktemp -d)
@@ -31,8 +32,8 @@ done
 { cat examples/clean.store; printf x; } >"$room/long"
 same "one byte more" "answer 4" "$(bin/storecheck "$room/long")"
 same "no input" "answer 1" "$(bin/storecheck </dev/null)"
-same "closed input" "answer 1" "$(bin/storecheck <&-)"
-same "a directory as input" "answer 1" "$(target/bin/storecheck <examples)"
+same "closed input of the program" "answer 1" "$(target/bin/storecheck <&-)"
+same "a directory as input of the program" "answer 1" "$(target/bin/storecheck <examples)"
 same "endless input" "answer 2" "$(bin/storecheck </dev/zero)"
 
 # No more is read than needed: what is left of the input after the answer.
@@ -65,6 +66,91 @@ case $(called --help) in "0 0 "*) help=shown ;; *) help=missing ;; esac
 same "help" shown "$help"
 ln -s "$PWD/bin/storecheck" "$room/linked"
 same "through a link, from elsewhere" "$(cat examples/hurt.report)" "$(cd "$room" && ./linked "$OLDPWD/examples/hurt.store")"
+
+# What input or output that fails ends with: the status, what is said on standard error, and how much is printed.
+ended() { # STATUS
+    echo "$1 $(cat "$room/said"), $(wc -c <"$room/out") bytes"
+}
+: >"$room/out"
+bin/storecheck examples/hurt.store >/dev/full 2>"$room/said"
+same "a full disk" "1 storecheck: the report cannot be written, 0 bytes" "$(ended $?)"
+bin/storecheck <examples/hurt.store >/dev/full 2>"$room/said"
+same "a full disk, standard input" "1 storecheck: the report cannot be written, 0 bytes" "$(ended $?)"
+bin/storecheck --help >/dev/full 2>"$room/said"
+same "help to a full disk" "1 storecheck: the help cannot be written, 0 bytes" "$(ended $?)"
+bin/storecheck examples/hurt.store >&- 2>"$room/said"
+same "closed output" "1 storecheck: standard output is closed, 0 bytes" "$(ended $?)"
+bin/storecheck --help >&- 2>"$room/said"
+same "help to a closed output" "1 storecheck: standard output is closed, 0 bytes" "$(ended $?)"
+{
+    sleep 0.3
+    bin/storecheck examples/hurt.store 2>"$room/said"
+    echo $? >"$room/status"
+} | true
+same "a reader that is gone" "1 storecheck: the report cannot be written, 0 bytes" "$(ended "$(cat "$room/status")")"
+bin/storecheck examples/hurt.store >&- 2>&-
+same "closed output and nowhere to say it" 1 $?
+bin/storecheck <&- >"$room/out" 2>"$room/said"
+same "closed input" "1 storecheck: standard input is closed, 0 bytes" "$(ended $?)"
+bin/storecheck <examples >"$room/out" 2>"$room/said"
+same "a directory on standard input" "1 storecheck: standard input is a directory, 0 bytes" "$(ended $?)"
+bin/storecheck 0>"$room/written" >"$room/out" 2>"$room/said"
+same "an input open for writing only" "1 storecheck: standard input cannot be read, 0 bytes" "$(ended $?)"
+if [ -r /proc/self/mem ]; then
+    bin/storecheck /proc/self/mem >"$room/out" 2>"$room/said"
+    same "a file whose reading fails" "1 storecheck: '/proc/self/mem' cannot be read, 0 bytes" "$(ended $?)"
+fi
+if [ "$(id -u)" -ne 0 ]; then
+    cp examples/clean.store "$room/secret"
+    chmod 000 "$room/secret"
+    bin/storecheck "$room/secret" >"$room/out" 2>"$room/said"
+    same "a file without permission" "1 storecheck: '$room/secret' cannot be read, 0 bytes" "$(ended $?)"
+fi
+same "a file where input is closed" "$(cat examples/hurt.report)" "$(bin/storecheck examples/hurt.store <&-)"
+
+# The examples of docs/FORMAT.md: its header before zero bytes, and its line as the first of such a store and of both its tables.
+bytes() { # WHAT STANDS BEFORE THE OFFSET
+    for byte in $(sed -n "s/^    $1[0-9A-F][0-9A-F]:\\(\\( [0-9A-F][0-9A-F]\\)*\\).*/\\1/p" docs/FORMAT.md); do
+        printf "\\$(printf '%03o' "0x$byte")"
+    done
+}
+bytes "" >"$room/header"
+bytes "line " >"$room/line"
+same "how long the examples of docs/FORMAT.md are" "28 70" "$(wc -c <"$room/header") $(wc -c <"$room/line")"
+head -c 560 /dev/zero | cat "$room/header" - >"$room/zero"
+same "a store of zero bytes after it" "$(cat crates/storecheck/stdout)" "$(bin/storecheck "$room/zero")"
+head -c 210 /dev/zero >"$room/210"
+head -c 70 /dev/zero >"$room/70"
+cat "$room/header" "$room/line" "$room/210" "$room/line" "$room/70" "$room/line" "$room/70" >"$room/caption"
+same "the line of docs/FORMAT.md" "$(cat crates/storecheck/stdout)" "$(bin/storecheck "$room/caption")"
+
+# Building, with a toolchain that only says what it would: each of its lines is shown, and its status counts.
+mkdir -p "$room/copy/bin" "$room/copy/crates" "$room/tools"
+cp bin/storecheck "$room/copy/bin"
+: >"$room/copy/crates.txt"
+cat >"$room/tools/rt" <<'TOOL'
+#!/bin/sh
+echo "fn one::first: proved"
+echo "rt: one proved (1 s)"
+[ "$*" = "check storecheck" ] && [ -n "$PROVED" ] || exit 3
+mkdir -p target/bin && cp "$PROVED" target/bin/storecheck
+echo "rt: ok, 1 crates proved" >&2
+TOOL
+chmod +x "$room/tools/rt"
+built() { # PROGRAM THAT THE TOOLCHAIN GIVES
+    PROVED=$1 PATH=$room/tools:$PATH "$room/copy/bin/storecheck" examples/hurt.store >"$room/out" 2>"$room/said"
+    echo "$? $(sed -n 's/^storecheck: //p' "$room/said" | tail -n +2 | tr '\n' ';')"
+}
+same "a program that cannot be built" "1 one proved (1 s);it could not be built; target/storecheck.log says why;" "$(built "")"
+same "what its log has" "fn one::first: proved" "$(head -n 1 "$room/copy/target/storecheck.log")"
+same "a program that is built first" "0 one proved (1 s);ok, 1 crates proved;" "$(built "$PWD/target/bin/storecheck")"
+same "the report of a program built first" "$(cat examples/hurt.report)" "$(cat "$room/out")"
+same "a program that is there" "0 " "$(built "")"
+for way in 'kill -9 $$' 'echo "store 4 4"; kill -9 $$' 'exit 0'; do
+    printf '#!/bin/sh\n%s\n' "$way" >"$room/copy/target/bin/storecheck"
+    "$room/copy/bin/storecheck" examples/hurt.store >"$room/out" 2>"$room/said"
+    same "a program that ends by '$way'" "1 storecheck: the program ended without its report" "$? $(tail -n 1 "$room/said")"
+done
 
 echo "$checks checks of storecheck, $wrong wrong"
 [ "$wrong" -eq 0 ]

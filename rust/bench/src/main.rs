@@ -1,26 +1,32 @@
 //! The proved library's speed beside the peer and a plain copy of the same
-//! bytes, all in one run:
+//! bytes:
 //!
 //! ```sh
-//! cargo run --release -p bench
+//! cargo run --release -p bench                # one run
+//! cargo run --release -p bench -- --runs 10   # several, each a new process
 //! ```
 //!
 //! Before anything is timed, library and peer are compared once on each store.
-//! Each figure is the median of several rounds; a round times the library, the
-//! peer and the copy one after another. Prints a table in Markdown, with the
-//! bar of each row and whether it is met; a bar that isn't met is no failure.
+//! A round times the library, the peer and the copy one after another, and has
+//! its own ratios. A run's figure is the median of its rounds: of the times, and
+//! of the rounds' ratios. Prints a table in Markdown, in brackets the quartiles
+//! of one run's rounds or the least and the greatest of several runs' figures.
+//! Each row's bar is judged by the median; one that isn't met is no failure.
 
 mod doers;
+mod runs;
 mod stores;
 mod table;
 mod timing;
 
+use std::env;
 use std::hint::black_box;
+use std::process::ExitCode;
 
 use doers::{ALL, Doer, compare, compare_writing};
 use stores::{Buffers, DATA_BYTES, LINE_BYTES, Store};
-use table::{Bar, HEAD, Row, met};
-use timing::medians;
+use table::{Bar, Figures, HEAD, Row, figures};
+use timing::{ROUNDS, Range, rounds};
 
 /// The side of the large stores.
 const SIDE: usize = 512;
@@ -36,12 +42,45 @@ const GROWTH: f64 = 1.3;
 const FEW: usize = 1000;
 
 /// Turns in a round of these, since one takes microseconds.
-const TURNS: usize = 50;
+const TURNS: usize = 20;
 
-/// One line at a time, from parts of `width` bytes.
-fn single(name: &str, from: &[u8], width: usize, work: impl Fn(Doer, &[u8], &mut [u8])) {
+/// Each repair of a large store: its name, answer, passes and bars.
+const REPAIRS: [(&str, u32, u64, &[Bar]); 4] = [
+    ("clean", 0, 0, &[Bar::Peer(0.85), Bar::Copies(6.0)]),
+    ("lightly hurt", 0, 1, &[Bar::Peer(0.85)]),
+    ("hurt past repair", 11, 3, &[Bar::Peer(0.85)]),
+    ("chained", 0, 256, &[Bar::Peer(1.0)]),
+];
+
+/// The rows of the table, in the order in which a run gives their rounds.
+fn rows() -> Vec<Row> {
+    let row = |name: &str, unit, bars| Row {
+        name: name.to_string(),
+        unit,
+        bars,
+    };
+    let mut rows = vec![
+        row("write a line", Some("ns"), &[Bar::Peer(1.0)]),
+        row("read a line", Some("ns"), &[Bar::Peer(1.0)]),
+        row("tables", Some("ms"), &[Bar::Peer(0.85)]),
+    ];
+    for (name, answer, passes, bars) in REPAIRS {
+        let name = format!("repair, {name}, answer {answer}, passes {passes}");
+        rows.push(row(&name, Some("ms"), bars));
+    }
+    for side in SIDES {
+        let name = format!("repair, clean, {side} by {side}, each line");
+        rows.push(row(&name, Some("ns"), &[]));
+    }
+    let growth = "growth of these, largest / smallest";
+    rows.push(row(growth, None, &[Bar::Itself(GROWTH)]));
+    rows
+}
+
+/// One line at a time, from parts of `width` bytes: nanoseconds for a line.
+fn single(from: &[u8], width: usize, work: impl Fn(Doer, &[u8], &mut [u8])) -> Vec<Figures> {
     let mut to = vec![0; FEW * LINE_BYTES];
-    let times = medians(ALL, |doer| {
+    let times = rounds(ALL, |doer| {
         for _ in 0..TURNS {
             for (from, to) in from.chunks(width).zip(to.chunks_mut(LINE_BYTES)) {
                 work(doer, black_box(from), to);
@@ -49,102 +88,136 @@ fn single(name: &str, from: &[u8], width: usize, work: impl Fn(Doer, &[u8], &mut
             black_box(&to);
         }
     });
-    let row = Row {
-        name,
-        times: times.map(|time| time / (TURNS * FEW) as f64),
-        unit: "ns",
-        bars: &[Bar::Peer(1.0)],
-    };
-    println!("{row}");
+    let each = |times: [f64; 3]| figures(times.map(|time| time / (TURNS * FEW) as f64));
+    times.into_iter().map(each).collect()
 }
 
-/// A whole store at once.
-fn whole(name: &str, bars: &[Bar], work: impl FnMut(Doer)) {
-    let row = Row {
-        name,
-        times: medians(ALL, work).map(|time| time / 1e6),
-        unit: "ms",
-        bars,
-    };
-    println!("{row}");
+/// A whole store at once: milliseconds.
+fn whole(work: impl FnMut(Doer)) -> Vec<Figures> {
+    let times = rounds(ALL, work).into_iter();
+    times
+        .map(|times| figures(times.map(|time| time / 1e6)))
+        .collect()
 }
 
-/// Repair of clean stores of several sides, for each line.
-fn growth(stores: &[Store; SIDES.len()]) {
+/// Repair of clean stores of several sides: nanoseconds for a line of each, and
+/// their growth in each round.
+fn growth(stores: &[Store; SIDES.len()]) -> [Vec<Figures>; SIDES.len() + 1] {
     let mut buffers = SIDES.map(Buffers::new);
     // Every size in every round, and in each as many lines.
     let things: [_; 3 * SIDES.len()] = std::array::from_fn(|i| (i / 3, ALL[i % 3]));
-    let times = medians(things, |(i, doer)| {
+    let times = rounds(things, |(i, doer)| {
         let turns = (SIDE / SIDES[i]).pow(2);
         for _ in 0..turns {
             black_box(doer.repair(black_box(&stores[i]), &mut buffers[i]));
             black_box(&buffers[i]);
         }
     });
-    let times = times.map(|time| time / (SIDE * SIDE) as f64);
-    let (sizes, _) = times.as_chunks::<3>();
-    for (side, &times) in SIDES.iter().zip(sizes) {
-        let row = Row {
-            name: &format!("repair, clean, {side} by {side}, each line"),
-            times,
-            unit: "ns",
-            bars: &[],
-        };
-        println!("{row}");
+    let mut rows = [const { vec![] }; SIDES.len() + 1];
+    for round in times {
+        let (sizes, _) = round.as_chunks::<3>();
+        for (row, times) in rows.iter_mut().zip(sizes) {
+            row.push(figures(times.map(|time| time / (SIDE * SIDE) as f64)));
+        }
+        let grown = [0, 1, 2].map(|doer| {
+            let times = sizes.iter().map(|size| size[doer]);
+            times.clone().fold(0.0, f64::max) / times.fold(f64::INFINITY, f64::min)
+        });
+        rows[SIDES.len()].push(figures(grown));
     }
-    let [library, peer, copy] = [0, 1, 2].map(|doer| {
-        let times = sizes.iter().map(|size| size[doer]);
-        times.clone().fold(0.0, f64::max) / times.fold(f64::INFINITY, f64::min)
-    });
-    let met = met(library, GROWTH);
-    println!(
-        "| growth of these, largest / smallest \
-         | {library:.2} | {peer:.2} | {copy:.2} | | | {GROWTH} | {met} |"
-    );
+    rows
 }
 
-fn main() {
+/// One run: for each row its figures in every round.
+fn run() -> Vec<Vec<Figures>> {
     let data = stores::data(SIDE * SIDE);
     let clean_stores = SIDES.map(Store::new);
     let [small, middle, clean] = &clean_stores;
-    let light = &clean.lightly_hurt();
-    let past = &clean.past_repair();
-    let chained = &clean.chained();
+    let hurt = [clean.lightly_hurt(), clean.past_repair(), clean.chained()];
+    let large = || [clean].into_iter().chain(&hurt);
 
     compare_writing(&data);
     compare(small, (0, 0));
     compare(middle, (0, 0));
-    // Each repair with its answer, passes and bars.
-    let repairs: [(_, _, _, _, &[Bar]); 4] = [
-        ("clean", clean, 0, 0, &[Bar::Peer(0.85), Bar::Copies(6.0)]),
-        ("lightly hurt", light, 0, 1, &[Bar::Peer(0.85)]),
-        ("hurt past repair", past, 11, 3, &[Bar::Peer(0.85)]),
-        ("chained", chained, 0, 256, &[Bar::Peer(1.0)]),
-    ];
-    for (_, store, answer, passes, _) in repairs {
+    for (store, (_, answer, passes, _)) in large().zip(REPAIRS) {
         compare(store, (answer, passes));
     }
 
-    println!("{HEAD}");
     let few_data = &data[..FEW * DATA_BYTES];
-    single("write a line", few_data, DATA_BYTES, |doer, data, line| {
-        black_box(doer.write_line(data, line));
-    });
     let few_lines = &clean.lines[..FEW * LINE_BYTES];
-    single("read a line", few_lines, LINE_BYTES, |doer, line, out| {
-        black_box(doer.read_line(line, out));
-    });
     let mut buffers = Buffers::new(SIDE);
-    whole("tables", &[Bar::Peer(0.85)], |doer| {
-        black_box(doer.make_tables(black_box(clean), &mut buffers));
-        black_box(&buffers);
-    });
-    for (name, store, answer, passes, bars) in repairs {
-        let name = format!("repair, {name}, answer {answer}, passes {passes}");
-        whole(&name, bars, |doer| {
+    let mut given = vec![
+        single(few_data, DATA_BYTES, |doer, data, line| {
+            black_box(doer.write_line(data, line));
+        }),
+        single(few_lines, LINE_BYTES, |doer, line, out| {
+            black_box(doer.read_line(line, out));
+        }),
+        whole(|doer| {
+            black_box(doer.make_tables(black_box(clean), &mut buffers));
+            black_box(&buffers);
+        }),
+    ];
+    given.extend(large().map(|store| {
+        whole(|doer| {
             black_box(doer.repair(black_box(store), &mut buffers));
             black_box(&buffers);
-        });
+        })
+    }));
+    given.extend(growth(&clean_stores));
+    given
+}
+
+/// Prints the table.
+fn print(given: &[Vec<Figures>], range: Range) {
+    println!("{HEAD}");
+    for (row, of) in rows().iter().zip(given) {
+        println!("{}", row.line(of, range));
     }
-    growth(&clean_stores);
+}
+
+/// Several runs, and the table over them.
+fn several(count: usize) -> ExitCode {
+    match runs::several(count, rows().len()) {
+        Ok(given) => {
+            println!(
+                "{count} runs of at most {ROUNDS} rounds; in brackets the least and the greatest run:\n"
+            );
+            print(&given, Range::Whole);
+            ExitCode::SUCCESS
+        }
+        Err(error) => {
+            eprintln!("bench: {error}");
+            ExitCode::FAILURE
+        }
+    }
+}
+
+fn main() -> ExitCode {
+    let words: Vec<String> = env::args().skip(1).collect();
+    let words: Vec<&str> = words.iter().map(String::as_str).collect();
+    match words[..] {
+        [] => {
+            println!(
+                "One run of at most {ROUNDS} rounds; in brackets the quartiles of the rounds:\n"
+            );
+            print(&run(), Range::Quartiles);
+            ExitCode::SUCCESS
+        }
+        [runs::FIGURES] => {
+            runs::print_figures(&run());
+            ExitCode::SUCCESS
+        }
+        ["--runs", count] => match count.parse() {
+            Ok(count @ 1..) => several(count),
+            _ => called_wrong(),
+        },
+        _ => called_wrong(),
+    }
+}
+
+/// Says how it is called.
+fn called_wrong() -> ExitCode {
+    eprintln!("bench: it takes no argument, or --runs and a number from 1 up");
+    ExitCode::from(2)
 }

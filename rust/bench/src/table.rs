@@ -2,49 +2,165 @@
 
 use std::fmt;
 
+use crate::timing::{Range, Spread};
+
 /// The table's head.
 pub const HEAD: &str = "\
 | | library | peer | copy | library / peer | library / copy | bar | met |
 |---|---|---|---|---|---|---|---|";
 
-/// What a row's figure of the library may be at most.
+/// What one round or one run says of a row: its time by library, peer and
+/// copy, then library / peer and library / copy.
+pub type Figures = [f64; 5];
+
+/// The figures of a round with these times by library, peer and copy.
+pub fn figures([library, peer, copy]: [f64; 3]) -> Figures {
+    [library, peer, copy, library / peer, library / copy]
+}
+
+/// The medians of the figures of several rounds: of the times, and of the
+/// rounds' ratios.
+pub fn medians(rounds: &[Figures]) -> Figures {
+    std::array::from_fn(|i| spread(rounds, i, Range::Whole).median)
+}
+
+/// The median and the range of one of the five figures.
+fn spread(of: &[Figures], i: usize, range: Range) -> Spread {
+    Spread::of(of.iter().map(|figures| figures[i]), range)
+}
+
+/// What a row's figures may be at most.
 #[derive(Clone, Copy)]
 pub enum Bar {
     /// So many times the peer's.
     Peer(f64),
     /// So many times the copy's.
     Copies(f64),
+    /// So much itself.
+    Itself(f64),
+}
+
+impl Bar {
+    /// Which figure is judged, and what it may be at most.
+    fn judged(self) -> (usize, f64) {
+        match self {
+            Bar::Peer(most) => (3, most),
+            Bar::Copies(most) => (4, most),
+            Bar::Itself(most) => (0, most),
+        }
+    }
+
+    /// Whether the median meets the bar, and of several runs how many do.
+    fn met(self, of: &[Figures], range: Range) -> String {
+        let (i, most) = self.judged();
+        let median = spread(of, i, range).median;
+        let word = if median <= most { "yes" } else { "no" };
+        match range {
+            Range::Quartiles => word.to_string(),
+            Range::Whole => {
+                let runs = of.iter().filter(|figures| figures[i] <= most).count();
+                format!("{word} ({runs} of {})", of.len())
+            }
+        }
+    }
+}
+
+impl fmt::Display for Bar {
+    fn fmt(&self, f: &mut fmt::Formatter<'_>) -> fmt::Result {
+        match self {
+            Bar::Peer(most) => write!(f, "{most:.2} of the peer"),
+            Bar::Copies(most) => write!(f, "{most} copies"),
+            Bar::Itself(most) => write!(f, "{most}"),
+        }
+    }
 }
 
 /// A row of the table.
-pub struct Row<'a> {
+pub struct Row {
     /// What is done.
-    pub name: &'a str,
-    /// Its time by library, peer and copy.
-    pub times: [f64; 3],
-    /// The unit of these.
-    pub unit: &'a str,
+    pub name: String,
+    /// The unit of its times; none for a row of plain numbers, which has no
+    /// ratios.
+    pub unit: Option<&'static str>,
     /// The bars for it.
-    pub bars: &'a [Bar],
+    pub bars: &'static [Bar],
 }
 
-/// Whether a bar is met, in a word.
-pub fn met(figure: f64, most: f64) -> &'static str {
-    if figure <= most { "yes" } else { "no" }
+impl Row {
+    /// The row in Markdown, with the figures of several rounds or runs.
+    pub fn line(&self, of: &[Figures], range: Range) -> String {
+        let cell = |i, digits, unit: &str| {
+            let Spread { low, median, high } = spread(of, i, range);
+            format!("{median:.digits$}{unit} ({low:.digits$} to {high:.digits$})")
+        };
+        let mut cells = vec![self.name.clone()];
+        match self.unit {
+            Some(unit) => {
+                let unit = format!(" {unit}");
+                cells.extend([0, 1, 2].map(|i| cell(i, 1, &unit)));
+                cells.extend([cell(3, 2, ""), cell(4, 1, "")]);
+            }
+            None => {
+                cells.extend([0, 1, 2].map(|i| cell(i, 2, "")));
+                cells.extend([String::new(), String::new()]);
+            }
+        }
+        let listed = |words: Vec<String>| words.join(", ");
+        cells.push(listed(self.bars.iter().map(Bar::to_string).collect()));
+        cells.push(listed(
+            self.bars.iter().map(|bar| bar.met(of, range)).collect(),
+        ));
+        format!("| {} |", cells.join(" | "))
+    }
 }
 
-impl fmt::Display for Row<'_> {
-    fn fmt(&self, f: &mut fmt::Formatter<'_>) -> fmt::Result {
-        let Row { name, unit, .. } = self;
-        let [library, peer, copy] = self.times;
-        let (of_peer, copies) = (library / peer, library / copy);
-        let bars = self.bars.iter().map(|bar| match *bar {
-            Bar::Peer(most) => (format!("{most:.2} of the peer"), met(of_peer, most)),
-            Bar::Copies(most) => (format!("{most} copies"), met(copies, most)),
-        });
-        let (bars, met): (Vec<_>, Vec<_>) = bars.unzip();
-        write!(f, "| {name} | {library:.1} {unit} | {peer:.1} {unit} ")?;
-        write!(f, "| {copy:.1} {unit} | {of_peer:.2} | {copies:.1} ")?;
-        write!(f, "| {} | {} |", bars.join(", "), met.join(", "))
+#[cfg(test)]
+mod tests {
+    use super::*;
+
+    const TABLES: [Bar; 2] = [Bar::Peer(0.85), Bar::Copies(6.0)];
+
+    fn row() -> Row {
+        Row {
+            name: "tables".to_string(),
+            unit: Some("ms"),
+            bars: &TABLES,
+        }
+    }
+
+    /// The clock slows down between rounds: each round's ratio is right, and
+    /// their median is, where that of the medians is none of them.
+    #[test]
+    fn the_rounds_ratios_are_judged() {
+        let rounds = [[8.0, 10.0, 2.0], [8.0, 10.0, 2.0], [16.0, 20.0, 4.0]];
+        assert_eq!(medians(&rounds.map(figures)), [8.0, 10.0, 2.0, 0.8, 4.0]);
+        let rounds = [[8.0, 10.0, 2.0], [16.0, 18.0, 2.0], [16.0, 20.0, 2.0]];
+        assert_eq!(medians(&rounds.map(figures)), [16.0, 18.0, 2.0, 0.8, 8.0]);
+        assert_eq!(
+            row().line(&rounds.map(figures), Range::Quartiles),
+            "| tables | 16.0 ms (12.0 to 16.0) | 18.0 ms (14.0 to 19.0) | 2.0 ms (2.0 to 2.0) \
+             | 0.80 (0.80 to 0.84) | 8.0 (6.0 to 8.0) | 0.85 of the peer, 6 copies | yes, no |"
+        );
+    }
+
+    #[test]
+    fn runs_that_meet_a_bar_are_counted() {
+        let runs = [[8.0, 10.0, 2.0], [9.0, 10.0, 2.0], [7.0, 10.0, 1.0]];
+        assert_eq!(
+            row().line(&runs.map(figures), Range::Whole),
+            "| tables | 8.0 ms (7.0 to 9.0) | 10.0 ms (10.0 to 10.0) | 2.0 ms (1.0 to 2.0) \
+             | 0.80 (0.70 to 0.90) | 4.5 (4.0 to 7.0) | 0.85 of the peer, 6 copies \
+             | yes (2 of 3), yes (2 of 3) |"
+        );
+        let growth = Row {
+            name: "growth".to_string(),
+            unit: None,
+            bars: &[Bar::Itself(1.3)],
+        };
+        assert_eq!(
+            growth.line(&[figures([1.15, 1.2, 4.0])], Range::Quartiles),
+            "| growth | 1.15 (1.15 to 1.15) | 1.20 (1.20 to 1.20) | 4.00 (4.00 to 4.00) \
+             |  |  | 1.3 | yes |"
+        );
     }
 }

@@ -31,10 +31,12 @@ pub enum Answer {
     Parity,
     /// 10: a line to be read alone, changed or summed into tables is faulty.
     Faulty,
-    /// 11: faulty lines are left after the last pass of a repair.
+    /// 11: faulty lines are left after the last pass of a repair. They are
+    /// given as found.
     Left,
     /// 12: no line is faulty, but some parity line differs from that of the
-    /// repaired lines.
+    /// repaired lines. Trust no line: some may be wrong, and nothing tells
+    /// which.
     Differs,
     /// A number that this crate doesn't know.
     Other(u32),
@@ -139,7 +141,7 @@ pub enum Mark {
     Trial,
     /// 3: rebuilt from its row or column.
     Rebuilt,
-    /// 4: faulty.
+    /// 4: faulty, given as found.
     Faulty,
     /// A number that this crate doesn't know.
     Other(u8),

@@ -59,8 +59,8 @@ mod declared {
 }
 
 // In each call below every pointer comes from a slice or a reference together
-// with its length, and exclusive references overlap nothing: that is all that
-// the header asks.
+// with its length, and exclusive references overlap nothing: that is what the
+// header asks of them.
 
 /// Writes the line of some data; gives the answer.
 pub fn write_line(data: &[u8], line: &mut [u8]) -> u32 {

@@ -8,7 +8,8 @@
 //! store's rules; this crate is a safe way to call it.
 //!
 //! Nothing here panics on bad input: what is refused comes back as an
-//! [`Answer`]. Calls keep no state, so threads may call at once.
+//! [`Answer`]. Calls keep no state, so threads may call at once; making tables
+//! and repair need about 110 kB of a thread's stack.
 //!
 //! ```
 //! use sudoku::{Mark, Store};
@@ -27,6 +28,19 @@
 //! assert_eq!(repaired.store.read(3)?.data(), captions[3]);
 //! # Ok::<(), sudoku::Answer>(())
 //! ```
+//!
+//! # What to know
+//!
+//! - After [`Answer::Left`] the lines marked [`Mark::Faulty`] are damaged, as
+//!   found.
+//! - After [`Answer::Differs`] trust no line: none is faulty, but some parity
+//!   line disagrees. Some line may be wrong, and nothing tells which.
+//! - After [`Answer::Done`] the lines of a repair are those written, if both
+//!   tables are undamaged and no line had more than five damaged bits. The
+//!   repository's README says what holds beyond that.
+//! - Lines and tables of zero bytes are a valid store, the one that
+//!   [`Store::new`] gives: cleared memory can't be told from empty captions.
+//! - A refused call leaves the store as it was.
 //!
 //! # Linking
 //!

@@ -21,7 +21,8 @@ pub struct Store {
 /// What repair gives.
 #[derive(Clone, Debug, PartialEq, Eq)]
 pub struct Repaired {
-    /// [`Answer::Done`], [`Answer::Left`] or [`Answer::Differs`].
+    /// [`Answer::Done`], [`Answer::Left`] or [`Answer::Differs`]. Look at it
+    /// before using a line: after [`Answer::Differs`] none is to be trusted.
     pub answer: Answer,
     /// The passes over rows and columns: 0 if every line read alone.
     pub passes: u64,
@@ -32,7 +33,7 @@ pub struct Repaired {
 }
 
 impl Store {
-    /// A store of zero data.
+    /// A store of zero data. All its bytes are zero, and it is a valid store.
     ///
     /// ```
     /// use sudoku::{Answer, Store};
@@ -196,7 +197,9 @@ impl Store {
         self.line(n).map(read_line)
     }
 
-    /// Makes both tables from the lines, each as it reads alone.
+    /// Makes both tables from the lines, each as it reads alone. The lines then
+    /// count as written, right or wrong: tables made anew hide what
+    /// [`Answer::Differs`] tells.
     ///
     /// # Errors
     ///
@@ -247,7 +250,7 @@ impl Store {
     ///
     /// Lines that stay faulty ([`Answer::Left`]) and lines that don't agree
     /// with the tables ([`Answer::Differs`]) are no errors here: the answer
-    /// and the marks say so.
+    /// and the marks say so. [`Answer::done`] makes errors of them.
     ///
     /// ```
     /// use sudoku::{Answer, Mark, Store};
