@@ -1,23 +1,57 @@
 -- The three entry points without their choice: what a call that is not refused gives, and what a refused one leaves.
 use mathlib.Core.Path.{_≡_, refl, _∙_}
 use mathlib.Core.Logic.{_⊎_, inl, inr}
+use mathlib.Core.Bool.{Bool, true, false, cond, _&&_}
 use mathlib.Core.List.{List}
-use Prim.Native.Nat.{ℕ, zero, suc, _/_, _%_}
+use Prim.Native.Nat.{ℕ, zero, suc, _*_, _/_, _%_}
 use native.Mathlib.Omega.{arith}
 use borrow.Author.Tests.{ne-eqb}
-use Rattle.scheme.specs.Repair.{answer}
+use lib.Dec.{eqb}
+use lib.ListN.{length}
+use Rattle.scheme.specs.Visit.{Group, State}
+use Rattle.scheme.specs.Repair.{faultyCount, agrees, answer}
 use Rattle.rectangle.specs.Store.{putLine, groups}
-use Rattle.rectangle.specs.Refusals.{tablesRefusal, changeRefusal, repairRefusal}
+use Rattle.rectangle.specs.Refusals.{unless, every, sidesFit, holds, tablesFit, parityCorrect, tablesRefusal, changeRefusal, repairRefusal}
 use Rattle.rectangle.specs.Tables.{rowTableOf, columnTableOf, makeTables}
 use Rattle.rectangle.specs.Change.{newLine, difference, addTo, changeLine}
-use Rattle.rectangle.specs.Repair.{repaired, handedOver, repairStore}
+use Rattle.rectangle.specs.Repair.{repaired, handsOver, handedOver, repairStore}
 
 -- a refusal is 0 or not
 pub zero-or-not : (n : ℕ) → (n ≡ 0) ⊎ (n ≡ 0 → ⊥)
 zero-or-not zero = inl refl
 zero-or-not (suc n) = inr (λ e. omega arith)
 
+-- the steps' own answers hand over
+pub answer-hands-over : (gs : List Group) (s : State) → handsOver (answer gs s) ≡ true
+unfolding answer handsOver
+answer-hands-over gs s = go (eqb (faultyCount s) 0) (agrees gs s)
+  where
+    go : (none agree : Bool) → handsOver (cond none (cond agree 0 12) 11) ≡ true
+    go true true = refl
+    go true false = refl
+    go false agree = refl
+
+-- repair's refusals do not
+refusals-hand-nothing : (two five six seven nine : Bool)
+    → let refusal = unless two 2 (unless five 5 (unless six 6 (unless seven 7 (unless nine 9 0)))) in (refusal ≡ 0 → ⊥)
+    → handsOver refusal ≡ false
+unfolding handsOver
+refusals-hand-nothing false five six seven nine d = refl
+refusals-hand-nothing true false six seven nine d = refl
+refusals-hand-nothing true true false seven nine d = refl
+refusals-hand-nothing true true true false nine d = refl
+refusals-hand-nothing true true true true false d = refl
+refusals-hand-nothing true true true true true d = absurd (d refl)
+
 module _ (rows columns : ℕ) (lines rowTable columnTable : List ℕ) where
+  pub refusal-hands-nothing : (out marks : List ℕ) → (repairRefusal rows columns lines rowTable columnTable out marks ≡ 0 → ⊥)
+      → handsOver (repairRefusal rows columns lines rowTable columnTable out marks) ≡ false
+  unfolding repairRefusal
+  refusal-hands-nothing out marks =
+      refusals-hand-nothing (sidesFit rows columns) (holds (rows * columns) lines) (tablesFit rows columns rowTable columnTable)
+      (holds (rows * columns) out && eqb (length marks) (rows * columns))
+      (every parityCorrect (groups rows columns rowTable columnTable))
+
   module _ (refusal : ℕ) (is : tablesRefusal rows columns lines rowTable columnTable ≡ refusal) where
     pub tables-run : refusal ≡ 0
         → makeTables rows columns lines rowTable columnTable
