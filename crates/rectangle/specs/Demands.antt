@@ -95,7 +95,7 @@ GivenUpLast =
 
 -- ---- Document 01: "Repair also returns its passes: 0 when nothing was faulty after the first reading, never more than the lines
 -- faulty then."
--- the number of lines that are faulty after the first reading
+-- the number of lines that are faulty after the first reading; refusals have no passes (`RefusalsWriteNothing`)
 unfoldable pub faultyAlone : Rectangle → ℕ
 faultyAlone r = length (select (λ n. isFaulty (aloneAt (r .lines) n)) (upFrom 0 (count r)))
 
@@ -108,7 +108,7 @@ PassesReturned =
     (r : Rectangle) (out marks : List ℕ) → handsOver (repairOf r out marks .answer) ≡ true
     → PassesOf r (repairOf r out marks .passes)
 
--- ---- Document 01: "An accepted line is never altered later."
+-- ---- Document 01: "An accepted line is never altered later." (for those that a visit mends: `NeverAltered` of the scheme)
 -- line n is handed over as it reads alone, spare bits 0, and with that mark
 pub record GivenAsRead (r : Rectangle) (given : StoreRepaired) (n : ℕ) : Type 0 where
   pub line : bytesAt (given .lines) n ≡ lineOf (aloneAt (r .lines) n .line)

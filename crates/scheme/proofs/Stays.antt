@@ -6,33 +6,28 @@ use native.Mathlib.Nat.{add-zero, add-suc, suc-add, le-of-suc-le-suc, not-suc-le
 use lib.ListN.{length}
 use Rattle.gf2.specs.Word.{Word}
 use Rattle.scheme.specs.Layer.{Reading, Layer, readLine, Promises}
-use Rattle.scheme.specs.Visit.{Group, State, cellAt, lineAt, visit}
-use Rattle.scheme.specs.Repair.{readAll, pass, passesFrom, repair}
+use Rattle.scheme.specs.Visit.{Group, State, cellAt, lineAt}
+use Rattle.scheme.specs.Repair.{readAll, repair}
+use Rattle.scheme.specs.Stays.{Stays, NeverAltered}
 use Rattle.scheme.specs.Demand3.{wordAt}
 use Rattle.scheme.proofs.Grows.{Grows, grows-at, grows-length, kept-accepted, kept-faulty}
 use Rattle.scheme.proofs.Steps.{visit-grows, pass-grows}
 use Rattle.scheme.proofs.Passes.{passes-grow}
 
--- what holds between two stores of which one grew out of the other
-pub record Stays (before after : State) : Type 0 where
-  pub accepted : (n : ℕ) → (cellAt before n .mark ≡ 4 → ⊥) → cellAt after n ≡ cellAt before n
-  pub faulty : (n : ℕ) → cellAt after n .mark ≡ 4 → cellAt after n ≡ cellAt before n
-
 stays : {s t : State} → Grows s t → Stays s t
 stays g = record { accepted = λ n h. kept-accepted (grows-at g n) h; faulty = λ n h. kept-faulty (grows-at g n) h }
 
-pub visit-stays : (read : Reading) (g : Group) (s : State) → Stays s (visit read g s)
-visit-stays read g s = stays (visit-grows read g s)
-
-pub pass-stays : (read : Reading) (gs : List Group) (s : State) → Stays s (pass read gs s)
-pass-stays read gs s = stays (pass-grows read gs s)
-
-pub passes-stay : (read : Reading) (gs : List Group) (s : State) → Stays s (passesFrom read gs s .cells)
-passes-stay read gs s = stays (passes-grow read gs s)
+pub neverAltered : NeverAltered
+neverAltered =
+    record {
+      byVisit = λ read g s. stays (visit-grows read g s);
+      byPass = λ read gs s. stays (pass-grows read gs s);
+      byPasses = λ read gs s. stays (passes-grow read gs s);
+    }
 
 pub repair-stays : (read : Reading) (gs : List Group) (found : List Word) → Stays (readAll read 0 found) (repair read gs found .cells)
 unfolding repair
-repair-stays read gs found = passes-stay read gs (readAll read 0 found)
+repair-stays read gs found = neverAltered .byPasses read gs (readAll read 0 found)
 
 -- line n after the first reading
 pub readAll-at : (read : Reading) (k : ℕ) (found : List Word) (n : ℕ) → n < length found
