@@ -3,10 +3,10 @@ use mathlib.Core.Path.{_≡_, refl, _∙_}
 use mathlib.Core.Logic.{_⊎_, inl, inr}
 use mathlib.Core.Bool.{Bool, true, false, cond, _&&_}
 use mathlib.Core.List.{List}
-use Prim.Native.Nat.{ℕ, zero, suc, _*_, _/_, _%_}
+use Prim.Native.Nat.{ℕ, zero, suc, _*_, _/_, _%_, _≤_}
 use native.Mathlib.Omega.{arith}
 use borrow.Author.Tests.{ne-eqb}
-use lib.Dec.{eqb}
+use lib.Dec.{eqb, lit≤}
 use lib.ListN.{length}
 use Rattle.scheme.specs.Visit.{Group, State}
 use Rattle.scheme.specs.Repair.{faultyCount, agrees, answer}
@@ -31,26 +31,27 @@ answer-hands-over gs s = go (eqb (faultyCount s) 0) (agrees gs s)
     go true false = refl
     go false agree = refl
 
--- repair's refusals do not
-refusals-hand-nothing : (two five six seven nine : Bool)
-    → let refusal = unless two 2 (unless five 5 (unless six 6 (unless seven 7 (unless nine 9 0)))) in (refusal ≡ 0 → ⊥)
-    → handsOver refusal ≡ false
+-- numbers from 1 to 10 do not, nor does any of several refusals if none does
+up-to-ten : (n : ℕ) → n ≤ 10 → (n ≡ 0 → ⊥) → handsOver n ≡ false
 unfolding handsOver
-refusals-hand-nothing false five six seven nine d = refl
-refusals-hand-nothing true false six seven nine d = refl
-refusals-hand-nothing true true false seven nine d = refl
-refusals-hand-nothing true true true false nine d = refl
-refusals-hand-nothing true true true true false d = refl
-refusals-hand-nothing true true true true true d = absurd (d refl)
+up-to-ten n h d = rw (ne-eqb n 0 d, ne-eqb n 11 (λ e. omega arith), ne-eqb n 12 (λ e. omega arith))
+
+unless-hands-nothing : (b : Bool) (refusal next : ℕ) → handsOver refusal ≡ false → ((next ≡ 0 → ⊥) → handsOver next ≡ false)
+    → (unless b refusal next ≡ 0 → ⊥) → handsOver (unless b refusal next) ≡ false
+unless-hands-nothing true refusal next h later d = later d
+unless-hands-nothing false refusal next h later d = h
 
 module _ (rows columns : ℕ) (lines rowTable columnTable : List ℕ) where
   pub refusal-hands-nothing : (out marks : List ℕ) → (repairRefusal rows columns lines rowTable columnTable out marks ≡ 0 → ⊥)
       → handsOver (repairRefusal rows columns lines rowTable columnTable out marks) ≡ false
-  unfolding repairRefusal
+  unfolding repairRefusal handsOver
   refusal-hands-nothing out marks =
-      refusals-hand-nothing (sidesFit rows columns) (holds (rows * columns) lines) (tablesFit rows columns rowTable columnTable)
-      (holds (rows * columns) out && eqb (length marks) (rows * columns))
-      (every parityCorrect (groups rows columns rowTable columnTable))
+      unless-hands-nothing (sidesFit rows columns) 2 _ refl
+      (unless-hands-nothing (holds (rows * columns) lines) 5 _ refl
+      (unless-hands-nothing (tablesFit rows columns rowTable columnTable) 6 _ refl
+      (unless-hands-nothing (holds (rows * columns) out && eqb (length marks) (rows * columns)) 7 _ refl
+      (unless-hands-nothing (every parityCorrect (groups rows columns rowTable columnTable)) 9 _ refl
+      (up-to-ten _ (lit≤ tt))))))
 
   module _ (refusal : ℕ) (is : tablesRefusal rows columns lines rowTable columnTable ≡ refusal) where
     pub tables-run : refusal ≡ 0
