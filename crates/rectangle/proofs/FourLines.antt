@@ -18,7 +18,7 @@ use Rattle.scheme.specs.Demand3 as Scheme
 use Rattle.scheme.proofs.NotAlike.{another-differs, eight-bits}
 use Rattle.rectangle.specs.Store.{lineLayer, placesAt, row, column, rowGroup, columnGroup, groups}
 use Rattle.rectangle.specs.Refusals.{every}
-use Rattle.rectangle.specs.Demands.{Rectangle, count, Written, EqualTables, Alike, Undamaged, FourLinesApart, EqualOrFourLines}
+use Rattle.rectangle.specs.Demands.{Rectangle, count, Written, EqualTables, Alike, FourLinesApart, EqualOrFourLines}
 use Rattle.rectangle.proofs.Members.{upFrom-bounds}
 use Rattle.rectangle.proofs.Tests.{below-every, some-fails}
 use Rattle.rectangle.proofs.Buffer.{length-linesIn, linesIn-at, linesIn-equal}

@@ -3,7 +3,7 @@ use mathlib.Core.Path.{_≡_, refl, sym, ap, _∙_}
 use mathlib.Core.Bool.{Bool, true, false, cond}
 use mathlib.Core.List.{List, [], _∷_, map}
 use Prim.Native.Nat.{ℕ, zero, suc, _*_, _<_}
-use native.Mathlib.Nat.{zero-add, le-of-suc-le-suc, not-suc-le-zero}
+use native.Mathlib.Nat.{le-of-suc-le-suc, not-suc-le-zero}
 use native.Mathlib.Omega.{arith}
 use borrow.Author.Tests.{eqb-false, not-true}
 use lib.ListN.{length, getD, length-map, List·getD-map}
@@ -12,8 +12,7 @@ use Rattle.linecode.specs.Places.{lineBytes, lineOf}
 use Rattle.linecode.specs.Code.{upFrom}
 use Rattle.scheme.specs.Layer.{Cell, readLine, Promises}
 use Rattle.scheme.specs.Visit.{Group, State, cellAt, lineAt, isFaulty, select}
-use Rattle.scheme.specs.Repair.{readAll, faultyCount, repair, linesOf, marksOf}
-use Rattle.scheme.specs.Demand3.{wordAt}
+use Rattle.scheme.specs.Repair.{readAll, faultyCount, linesOf, marksOf}
 use Rattle.scheme.proofs.Passes.{repair-passes-none, repair-passes-bound}
 use Rattle.scheme.proofs.Stays.{first-reading-at, repair-stays, repair-length, faulty-as-found}
 use Rattle.rectangle.specs.Store.{lineLayer, bytesAt, placesAt, linesIn, bufferOf, aloneAt, groups}

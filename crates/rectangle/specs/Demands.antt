@@ -51,6 +51,7 @@ pub record RefusalsWriteNothing : Type 0 where
   pub change : (r : Rectangle) (n : ℕ) (payload : List ℕ) → (changeIn r n payload .answer ≡ 0 → ⊥)
       → (changeIn r n payload .lines ≡ r .lines) × (changeIn r n payload .rowTable ≡ r .rowTable)
       × (changeIn r n payload .columnTable ≡ r .columnTable)
+  -- a refusal of repair is an answer that hands nothing over
   pub repair : (r : Rectangle) (out marks : List ℕ) → handsOver (repairOf r out marks .answer) ≡ false
       → (repairOf r out marks .lines ≡ out) × (repairOf r out marks .marks ≡ marks) × (repairOf r out marks .passes ≡ 0)
 
@@ -77,6 +78,7 @@ TablesAreOfTheCode =
 
 -- ---- Document 01: "A parity line is the place-by-place exclusive or of its row's or column's lines, 70 bytes; of correct lines it
 -- is itself a correct line."
+-- the lines of these numbers are correct
 abbrev pub CorrectLines : List ℕ → List ℕ → Type 0
 CorrectLines lines members = (n : ℕ) → n ∈ members → CorrectLine lineLayer n (placesAt lines n)
 
@@ -95,7 +97,7 @@ GivenUpLast =
 
 -- ---- Document 01: "Repair also returns its passes: 0 when nothing was faulty after the first reading, never more than the lines
 -- faulty then."
--- the number of lines that are faulty after the first reading; refusals have no passes (`RefusalsWriteNothing`)
+-- the number of lines that are faulty after the first reading
 unfoldable pub faultyAlone : Rectangle → ℕ
 faultyAlone r = length (select (λ n. isFaulty (aloneAt (r .lines) n)) (upFrom 0 (count r)))
 
@@ -103,13 +105,14 @@ pub record PassesOf (r : Rectangle) (passes : ℕ) : Type 0 where
   pub none : (passes ≡ 0) ↔ (faultyAlone r ≡ 0)
   pub most : passes ≤ faultyAlone r
 
+-- a refusal's passes are 0: `RefusalsWriteNothing`
 abbrev pub PassesReturned : Type 0
 PassesReturned =
     (r : Rectangle) (out marks : List ℕ) → handsOver (repairOf r out marks .answer) ≡ true
     → PassesOf r (repairOf r out marks .passes)
 
 -- ---- Document 01: "An accepted line is never altered later." (for those that a visit mends: `NeverAltered` of the scheme)
--- line n is handed over as it reads alone, spare bits 0, and with that mark
+-- line n is handed over as it reads alone, spare bits 0, and with that mark (a mark left out would be a 4)
 pub record GivenAsRead (r : Rectangle) (given : StoreRepaired) (n : ℕ) : Type 0 where
   pub line : bytesAt (given .lines) n ≡ lineOf (aloneAt (r .lines) n .line)
   pub mark : getD (given .marks) n 4 ≡ aloneAt (r .lines) n .mark
