@@ -20,6 +20,7 @@ use Rattle.rectangle.specs.Store.{lineLayer, readUnder, bytesAt, placesAt, line
 use Rattle.rectangle.proofs.Kept.{kept}
 use Rattle.rectangle.proofs.Buffer.{length-bufferOf, bytesAt-bufferOf}
 use Rattle.rectangle.proofs.Loops.{put-next, reading-wide}
+use Rattle.rectangle.proofs.Handed.{read-from}
 use Rattle.rectangle.proofs.Members.{length-upFrom, map-upFrom}
 use Rattle.groups.specs.Lent.{Holding}
 use Rattle.first_reading.specs.Lent.{Begun, readFirst}
@@ -48,11 +49,6 @@ unfolding readFirst
 one-more found n =
     ap (map (aloneAt found)) (upFrom-snoc 0 n ∙ ap (λ (k : ℕ). upFrom 0 n ++ (k ∷ [])) (zero-add n))
     ∙ map-snoc (aloneAt found) (upFrom 0 n) n
-
-read-from : (found : List ℕ) (i n : ℕ) → readAll (readLine lineLayer) i (map (placesAt found) (upFrom i n)) ≡ map (aloneAt found) (upFrom i n)
-unfolding aloneAt
-read-from found i zero = refl
-read-from found i (suc n) = ap (λ (s : State). readLine lineLayer i (placesAt found i) ∷ s) (read-from found (suc i) n)
 
 pub all-read : (found : List ℕ) (k : ℕ) → readAll (readLine lineLayer) 0 (linesIn k found) ≡ readFirst found k
 unfolding linesIn readFirst

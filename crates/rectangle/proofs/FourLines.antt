@@ -3,12 +3,12 @@ use mathlib.Core.Path.{_≡_, refl, sym, ap, ap₂, subst, _∙_}
 use mathlib.Core.Logic.{_⊎_, inl, inr}
 use mathlib.Core.Bool.{Bool, true, false, true≢false}
 use mathlib.Core.List.{List, [], _∷_}
-use Prim.Native.Nat.{ℕ, _/_, _%_, _≤_, _<_}
+use Prim.Native.Nat.{ℕ, _*_, _/_, _%_, _≤_, _<_}
 use native.Mathlib.Omega.{arith}
 use lib.Dec.{T, lit≤}
 use lib.ListN.{length}
 use lib.Seq.{ext-getD}
-use Rattle.gf2.specs.Word.{same, distance}
+use Rattle.gf2.specs.Word.{Word, same, distance}
 use Rattle.gf2.proofs.Same.{same-refl, same-equal}
 use Rattle.linecode.specs.Code.{upFrom}
 use Rattle.scheme.specs.Layer.{Promises}
@@ -18,7 +18,7 @@ use Rattle.scheme.specs.Demand3 as Scheme
 use Rattle.scheme.proofs.NotAlike.{another-differs, eight-bits}
 use Rattle.rectangle.specs.Store.{lineLayer, placesAt, row, column, rowGroup, columnGroup, groups}
 use Rattle.rectangle.specs.Refusals.{every}
-use Rattle.rectangle.specs.Demands.{Rectangle, count, Written, EqualTables, FourLinesApart, EqualOrFourLines}
+use Rattle.rectangle.specs.Demands.{Rectangle, count, Written, EqualTables, Alike, FourLinesApart, EqualOrFourLines}
 use Rattle.rectangle.proofs.Members.{upFrom-bounds}
 use Rattle.rectangle.proofs.Tests.{below-every, some-fails}
 use Rattle.rectangle.proofs.Buffer.{length-linesIn, linesIn-at, linesIn-equal}
@@ -26,6 +26,55 @@ use Rattle.rectangle.proofs.Groups.{in-row, row-number, row-inside, row
 use Rattle.rectangle.proofs.Written.{wordsOf, some-columns, store-written}
 use Rattle.rectangle.proofs.Order.{received}
 use Rattle.rectangle.proofs.Demand3.{same-sides, same-lines}
+
+-- ---- looking alike
+tables-sym : {r s : Rectangle} → EqualTables r s → EqualTables s r
+tables-sym t = record { rowTable = sym (t .rowTable); columnTable = sym (t .columnTable) }
+
+tables-trans : {r s t : Rectangle} → EqualTables r s → EqualTables s t → EqualTables r t
+tables-trans e f = record { rowTable = e .rowTable ∙ f .rowTable; columnTable = e .columnTable ∙ f .columnTable }
+
+alike-sym : {r s : Rectangle} → Alike r s → Alike s r
+alike-sym a =
+    record { rows = sym (a .rows); columns = sym (a .columns); lines = sym (a .lines); tables = tables-sym (a .tables) }
+
+alike-trans : {r s t : Rectangle} → Alike r s → Alike s t → Alike r t
+alike-trans a b =
+    record {
+      rows = a .rows ∙ b .rows;
+      columns = a .columns ∙ b .columns;
+      lines = a .lines ∙ b .lines;
+      tables = tables-trans (a .tables) (b .tables);
+    }
+
+alike-count : {r s : Rectangle} → Alike r s → count r ≡ count s
+alike-count a = ap₂ _*_ (a .rows) (a .columns)
+
+alike-line : {r s : Rectangle} → Alike r s → (n : ℕ) → n < count r → placesAt (r .lines) n ≡ placesAt (s .lines) n
+alike-line {r} {s} a n h =
+    sym (linesIn-at (count r) (r .lines) n h)
+    ∙ ap (λ (ws : List Word). wordAt ws n) (a .lines)
+    ∙ linesIn-at (count s) (s .lines) n (subst (λ (k : ℕ). n < k) (alike-count a) h)
+
+-- what is apart stays so where others look like it
+apart-alike : {one two w v : Rectangle} → Alike one w → Alike two v → count one ≡ count two → FourLinesApart w v
+    → FourLinesApart one two
+apart-alike {one} {two} {w} {v} a b e f =
+    record {
+      differing = f .differing;
+      distinct = f .distinct;
+      four = f .four;
+      differ = λ n i.
+          let h : n < count one = subst (λ (k : ℕ). n < k) (sym (alike-count a)) (f .differ n i .0) in
+          (h, λ same. f .differ n i .1 (sym (alike-line a n h) ∙ same ∙ alike-line b n (inside n h)));
+      eight = λ n h differ.
+          subst (λ (k : ℕ). 8 ≤ k) (sym (ap₂ distance (alike-line a n h) (alike-line b n (inside n h))))
+          (f .eight n (subst (λ (k : ℕ). n < k) (alike-count a) h)
+          (λ same. differ (alike-line a n h ∙ same ∙ sym (alike-line b n (inside n h)))));
+    }
+  where
+    inside : (n : ℕ) → n < count one → n < count two
+    inside n h = subst (λ (k : ℕ). n < k) e h
 
 module _ (promises : Promises lineLayer) where
   module _ (one : Rectangle) (w : Written one) (lines rowTable columnTable : List ℕ)
@@ -198,8 +247,22 @@ module _ (promises : Promises lineLayer) where
             (four-lines (f .0) (omega (arith, upFrom-bounds 0 (count one) (f .0) (f .1) .1))
             (λ s. true≢false (sym (same-refl (wordAt (wordsOf one) (f .0))) ∙ ap (same (wordAt (wordsOf one) (f .0))) s ∙ f .2)))
 
-  pub equalOrFourLines : EqualOrFourLines
-  equalOrFourLines one two w v e f equal =
+  -- two rectangles written
+  written-equal-or-four : (one two : Rectangle) → Written one → Written two → one .rows ≡ two .rows → one .columns ≡ two .columns
+      → EqualTables one two → (one ≡ two) ⊎ FourLinesApart one two
+  written-equal-or-four one two w v e f equal =
       subst (λ (x : Rectangle). Written x → EqualTables one x → (one ≡ x) ⊎ FourLinesApart one x)
       (sym (same-sides one two (sym e) (sym f)))
       (λ v′ equal′. equal-or-four one w (two .lines) (two .rowTable) (two .columnTable) v′ equal′) v equal
+
+  -- two undamaged ones, by the places of those written
+  pub equalOrFourLines : EqualOrFourLines
+  equalOrFourLines one two u v e f equal =
+      go
+      (written-equal-or-four (u .written) (v .written) (u .whole) (v .whole) (sym (u .alike .rows) ∙ e ∙ v .alike .rows)
+      (sym (u .alike .columns) ∙ f ∙ v .alike .columns)
+      (tables-trans (tables-sym (u .alike .tables)) (tables-trans equal (v .alike .tables))))
+    where
+      go : (u .written ≡ v .written) ⊎ FourLinesApart (u .written) (v .written) → Alike one two ⊎ FourLinesApart one two
+      go (inl same) = inl (alike-trans (subst (Alike one) same (u .alike)) (alike-sym (v .alike)))
+      go (inr apart) = inr (apart-alike (u .alike) (v .alike) (ap₂ _*_ e f) apart)

@@ -13,6 +13,7 @@ pub mod Loops
 -- The entry points: what is refused, and what is written.
 pub mod Runs
 pub mod Refused
+pub mod Handed
 pub mod Refusing
 pub mod Summing
 pub mod Pieces
@@ -21,6 +22,7 @@ pub mod Sweeping
 -- The demands: read Kept last.
 pub mod Writing
 pub mod Parity
+pub mod ParityLines
 pub mod Written
 pub mod Order
 pub mod Demand3

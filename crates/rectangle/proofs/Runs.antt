@@ -1,23 +1,58 @@
 -- The three entry points without their choice: what a call that is not refused gives, and what a refused one leaves.
 use mathlib.Core.Path.{_≡_, refl, _∙_}
 use mathlib.Core.Logic.{_⊎_, inl, inr}
+use mathlib.Core.Bool.{Bool, true, false, cond, _&&_}
 use mathlib.Core.List.{List}
-use Prim.Native.Nat.{ℕ, zero, suc, _/_, _%_}
+use Prim.Native.Nat.{ℕ, zero, suc, _*_, _/_, _%_, _≤_}
 use native.Mathlib.Omega.{arith}
 use borrow.Author.Tests.{ne-eqb}
-use Rattle.scheme.specs.Repair.{answer}
+use lib.Dec.{eqb, lit≤}
+use lib.ListN.{length}
+use Rattle.scheme.specs.Visit.{Group, State}
+use Rattle.scheme.specs.Repair.{faultyCount, agrees, answer}
 use Rattle.rectangle.specs.Store.{putLine, groups}
-use Rattle.rectangle.specs.Refusals.{tablesRefusal, changeRefusal, repairRefusal}
+use Rattle.rectangle.specs.Refusals.{unless, every, sidesFit, holds, tablesFit, parityCorrect, tablesRefusal, changeRefusal, repairRefusal}
 use Rattle.rectangle.specs.Tables.{rowTableOf, columnTableOf, makeTables}
 use Rattle.rectangle.specs.Change.{newLine, difference, addTo, changeLine}
-use Rattle.rectangle.specs.Repair.{repaired, handedOver, repairStore}
+use Rattle.rectangle.specs.Repair.{repaired, handsOver, handedOver, repairStore}
 
 -- a refusal is 0 or not
 pub zero-or-not : (n : ℕ) → (n ≡ 0) ⊎ (n ≡ 0 → ⊥)
 zero-or-not zero = inl refl
 zero-or-not (suc n) = inr (λ e. omega arith)
 
+-- the steps' own answers hand over
+pub answer-hands-over : (gs : List Group) (s : State) → handsOver (answer gs s) ≡ true
+unfolding answer handsOver
+answer-hands-over gs s = go (eqb (faultyCount s) 0) (agrees gs s)
+  where
+    go : (none agree : Bool) → handsOver (cond none (cond agree 0 12) 11) ≡ true
+    go true true = refl
+    go true false = refl
+    go false agree = refl
+
+-- numbers from 1 to 10 do not, nor does any of several refusals if none does
+up-to-ten : (n : ℕ) → n ≤ 10 → (n ≡ 0 → ⊥) → handsOver n ≡ false
+unfolding handsOver
+up-to-ten n h d = rw (ne-eqb n 0 d, ne-eqb n 11 (λ e. omega arith), ne-eqb n 12 (λ e. omega arith))
+
+unless-hands-nothing : (b : Bool) (refusal next : ℕ) → handsOver refusal ≡ false → ((next ≡ 0 → ⊥) → handsOver next ≡ false)
+    → (unless b refusal next ≡ 0 → ⊥) → handsOver (unless b refusal next) ≡ false
+unless-hands-nothing true refusal next h later d = later d
+unless-hands-nothing false refusal next h later d = h
+
 module _ (rows columns : ℕ) (lines rowTable columnTable : List ℕ) where
+  pub refusal-hands-nothing : (out marks : List ℕ) → (repairRefusal rows columns lines rowTable columnTable out marks ≡ 0 → ⊥)
+      → handsOver (repairRefusal rows columns lines rowTable columnTable out marks) ≡ false
+  unfolding repairRefusal handsOver
+  refusal-hands-nothing out marks =
+      unless-hands-nothing (sidesFit rows columns) 2 _ refl
+      (unless-hands-nothing (holds (rows * columns) lines) 5 _ refl
+      (unless-hands-nothing (tablesFit rows columns rowTable columnTable) 6 _ refl
+      (unless-hands-nothing (holds (rows * columns) out && eqb (length marks) (rows * columns)) 7 _ refl
+      (unless-hands-nothing (every parityCorrect (groups rows columns rowTable columnTable)) 9 _ refl
+      (up-to-ten _ (lit≤ tt))))))
+
   module _ (refusal : ℕ) (is : tablesRefusal rows columns lines rowTable columnTable ≡ refusal) where
     pub tables-run : refusal ≡ 0
         → makeTables rows columns lines rowTable columnTable

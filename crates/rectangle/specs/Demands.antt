@@ -1,20 +1,22 @@
 -- What the customer demands, each sentence above its statement; the words of demand 3 as document 01 gives them, in bytes.
 use mathlib.Core.Path.{_≡_}
-use mathlib.Core.Logic.{_⊎_}
+use mathlib.Core.Logic.{_⊎_, _↔_}
 use mathlib.Core.Bool.{Bool, true, false}
 use mathlib.Core.List.{List, [], _∷_}
 use Prim.Native.Nat.{ℕ, _*_, _/_, _%_, _≤_, _<_}
 use lib.ListN.{length, getD}
 use Rattle.gf2.specs.Word.{_⊕_, distance}
-use Rattle.linecode.specs.Places.{dataBytes}
+use Rattle.linecode.specs.Places.{dataBytes, lineOf}
+use Rattle.linecode.specs.Code.{upFrom}
 use Rattle.scheme.specs.Layer.{CorrectLine, readLine, parityAddress}
-use Rattle.scheme.specs.Repair.{pass, linesOf, marksOf}
+use Rattle.scheme.specs.Visit.{isFaulty, select}
+use Rattle.scheme.specs.Repair.{Repaired, pass, linesOf, marksOf}
 use Rattle.scheme.specs.Demand3.{_∈_}
-use Rattle.rectangle.specs.Store.{lineLayer, placesAt, linesIn, bufferOf, row, column, groups}
+use Rattle.rectangle.specs.Store.{lineLayer, bytesAt, placesAt, linesIn, bufferOf, aloneAt, row, column, groups}
 use Rattle.rectangle.specs.Refusals.{sidesFit, holds, tablesFit, acceptedAt}
 use Rattle.rectangle.specs.Tables.{rowParity, columnParity, rowTableOf, columnTableOf, TablesMade, makeTables}
 use Rattle.rectangle.specs.Change.{LineChanged, changeLine}
-use Rattle.rectangle.specs.Repair.{repaired, StoreRepaired, repairStore}
+use Rattle.rectangle.specs.Repair.{repaired, StoreRepaired, handsOver, repairStore}
 
 -- a rectangle: its rows and columns, and in bytes its lines and both tables
 pub record Rectangle : Type 0 where
@@ -38,6 +40,10 @@ changeIn r n payload = changeLine (r .rows) (r .columns) (r .lines) (r .rowTable
 unfoldable pub repairOf : Rectangle → List ℕ → List ℕ → StoreRepaired
 repairOf r out marks = repairStore (r .rows) (r .columns) (r .lines) (r .rowTable) (r .columnTable) out marks
 
+-- what the SuDoku steps leave of a rectangle
+abbrev pub stepsOn : Rectangle → Repaired
+stepsOn r = repaired (r .rows) (r .columns) (r .lines) (r .rowTable) (r .columnTable)
+
 -- ---- Demand 1: "Refusals up to 10 write nothing;"
 pub record RefusalsWriteNothing : Type 0 where
   pub tables : (r : Rectangle) (oldRows oldColumns : List ℕ) → (tablesFor r oldRows oldColumns .answer ≡ 0 → ⊥)
@@ -45,15 +51,16 @@ pub record RefusalsWriteNothing : Type 0 where
   pub change : (r : Rectangle) (n : ℕ) (payload : List ℕ) → (changeIn r n payload .answer ≡ 0 → ⊥)
       → (changeIn r n payload .lines ≡ r .lines) × (changeIn r n payload .rowTable ≡ r .rowTable)
       × (changeIn r n payload .columnTable ≡ r .columnTable)
-  pub repair : (r : Rectangle) (out marks : List ℕ) → (repairOf r out marks .answer ≡ 0 → ⊥) → repairOf r out marks .answer ≤ 10
+  -- a refusal of repair is an answer that hands nothing over
+  pub repair : (r : Rectangle) (out marks : List ℕ) → handsOver (repairOf r out marks .answer) ≡ false
       → (repairOf r out marks .lines ≡ out) × (repairOf r out marks .marks ≡ marks) × (repairOf r out marks .passes ≡ 0)
 
--- ---- Demand 1: "repair's 11 and 12 still hand over lines and marks as its steps leave them."
-abbrev pub HandsOver : Type 0
-HandsOver =
-    (r : Rectangle) (out marks : List ℕ) → 11 ≤ repairOf r out marks .answer
-    → let cells = repaired (r .rows) (r .columns) (r .lines) (r .rowTable) (r .columnTable) .cells in
-    (repairOf r out marks .lines ≡ bufferOf (linesOf cells)) × (repairOf r out marks .marks ≡ marksOf cells)
+-- ---- Demand 1: "repair's 11 and 12 still hand over lines and marks as its steps leave them.", and so does 0
+abbrev pub HandsOverAsLeft : Type 0
+HandsOverAsLeft =
+    (r : Rectangle) (out marks : List ℕ) → handsOver (repairOf r out marks .answer) ≡ true
+    → (repairOf r out marks .lines ≡ bufferOf (linesOf (stepsOn r .cells)))
+    × (repairOf r out marks .marks ≡ marksOf (stepsOn r .cells))
 
 -- ---- Demand 2: "Written lines and tables are those of the named Hamming and BCH codes,"
 -- where tables are made, each of their parity lines is a correct line
@@ -69,12 +76,58 @@ TablesAreOfTheCode =
     (r : Rectangle) (oldRows oldColumns : List ℕ) → tablesFor r oldRows oldColumns .answer ≡ 0
     → TablesOfTheCode r oldRows oldColumns
 
+-- ---- Document 01: "A parity line is the place-by-place exclusive or of its row's or column's lines, 70 bytes; of correct lines it
+-- is itself a correct line."
+-- the lines of these numbers are correct
+abbrev pub CorrectLines : List ℕ → List ℕ → Type 0
+CorrectLines lines members = (n : ℕ) → n ∈ members → CorrectLine lineLayer n (placesAt lines n)
+
+pub record ParityOfCorrectLines : Type 0 where
+  pub rows : (columns : ℕ) (lines : List ℕ) (k : ℕ) → 1 ≤ columns → CorrectLines lines (row columns k)
+      → lineLayer .Correct (parityAddress lineLayer (row columns k)) (rowParity columns lines k)
+  pub columns : (rows columns : ℕ) (lines : List ℕ) (k : ℕ) → 1 ≤ rows → CorrectLines lines (column rows columns k)
+      → lineLayer .Correct (parityAddress lineLayer (column rows columns k)) (columnParity rows columns lines k)
+
 -- ---- Demand 2: "Lines are given up only when a whole pass mends none of them."
 abbrev pub GivenUpLast : Type 0
 GivenUpLast =
     (r : Rectangle) (out marks : List ℕ) → repairOf r out marks .answer ≡ 11
-    → let cells = repaired (r .rows) (r .columns) (r .lines) (r .rowTable) (r .columnTable) .cells in
-    pass (readLine lineLayer) (groups (r .rows) (r .columns) (r .rowTable) (r .columnTable)) cells ≡ cells
+    → pass (readLine lineLayer) (groups (r .rows) (r .columns) (r .rowTable) (r .columnTable)) (stepsOn r .cells)
+    ≡ stepsOn r .cells
+
+-- ---- Document 01: "Repair also returns its passes: 0 when nothing was faulty after the first reading, never more than the lines
+-- faulty then."
+-- the number of lines that are faulty after the first reading
+unfoldable pub faultyAlone : Rectangle → ℕ
+faultyAlone r = length (select (λ n. isFaulty (aloneAt (r .lines) n)) (upFrom 0 (count r)))
+
+pub record PassesOf (r : Rectangle) (passes : ℕ) : Type 0 where
+  pub none : (passes ≡ 0) ↔ (faultyAlone r ≡ 0)
+  pub most : passes ≤ faultyAlone r
+
+-- a refusal's passes are 0: `RefusalsWriteNothing`
+abbrev pub PassesReturned : Type 0
+PassesReturned =
+    (r : Rectangle) (out marks : List ℕ) → handsOver (repairOf r out marks .answer) ≡ true
+    → PassesOf r (repairOf r out marks .passes)
+
+-- ---- Document 01: "An accepted line is never altered later." (for those that a visit mends: `NeverAltered` of the scheme)
+-- line n is handed over as it reads alone, spare bits 0, and with that mark (a mark left out would be a 4)
+pub record GivenAsRead (r : Rectangle) (given : StoreRepaired) (n : ℕ) : Type 0 where
+  pub line : bytesAt (given .lines) n ≡ lineOf (aloneAt (r .lines) n .line)
+  pub mark : getD (given .marks) n 4 ≡ aloneAt (r .lines) n .mark
+
+abbrev pub AcceptedNeverAltered : Type 0
+AcceptedNeverAltered =
+    (r : Rectangle) (out marks : List ℕ) → handsOver (repairOf r out marks .answer) ≡ true
+    → (n : ℕ) → n < count r → acceptedAt (r .lines) n ≡ true → GivenAsRead r (repairOf r out marks) n
+
+-- ---- Document 01: "it is faulty and kept as found, spare bits 0", also where it stays faulty to the end
+abbrev pub FaultyAsFound : Type 0
+FaultyAsFound =
+    (r : Rectangle) (out marks : List ℕ) → handsOver (repairOf r out marks .answer) ≡ true
+    → (n : ℕ) → n < count r → getD (repairOf r out marks .marks) n 0 ≡ 4
+    → bytesAt (repairOf r out marks .lines) n ≡ lineOf (placesAt (r .lines) n)
 
 -- ---- Words of demand 3
 -- a rectangle written has correct lines only and the tables made from them, all spare bits 0
@@ -97,6 +150,14 @@ pub record Alike (r s : Rectangle) : Type 0 where
   pub columns : r .columns ≡ s .columns
   pub lines : linesIn (count r) (r .lines) ≡ linesIn (count s) (s .lines)
   pub tables : EqualTables r s
+
+-- undamaged means that no place differs from a rectangle written; the lengths are those that refusals 5 and 6 ask for
+pub record Undamaged (r : Rectangle) : Type 0 where
+  pub lineBytes : holds (count r) (r .lines) ≡ true
+  pub tableBytes : tablesFit (r .rows) (r .columns) (r .rowTable) (r .columnTable) ≡ true
+  pub written : Rectangle
+  pub whole : Written written
+  pub alike : Alike r written
 
 -- no number stands twice
 abbrev pub Distinct : List ℕ → Type 0
@@ -162,6 +223,21 @@ ExactReturn =
     → holds (count received) out ≡ true → length marks ≡ count received
     → (repairOf received out marks .answer ≡ 0) × (repairOf received out marks .lines ≡ written .lines)
 
+-- the hypothesis can be met, with lines that differ and a trial that is needed: the first line of the order has its turn by trial,
+-- and is not the only one left in its row or in its column
+pub record HypothesisMet : Type 0 where
+  pub written : Rectangle
+  pub received : Rectangle
+  pub whole : Written written
+  pub damaged : DamagedSo written received
+  pub differ : linesIn (count written) (written .lines) ≡ linesIn (count received) (received .lines) → ⊥
+  pub first : ℕ
+  pub later : List ℕ
+  pub order : damaged .order ≡ first ∷ later
+  pub trial : Paired written received (λ m. m / written .columns) first later
+  pub notInRow : Alone written received (λ m. m / written .columns) first later → ⊥
+  pub notInColumn : Alone written received (λ m. m % written .columns) first later → ⊥
+
 -- ---- Demand 3: "No two different rectangles written, each damaged so in its own way, look alike in lines and tables."
 abbrev pub NotAlike : Type 0
 NotAlike =
@@ -180,8 +256,8 @@ pub record FourLinesApart (one two : Rectangle) : Type 0 where
 
 abbrev pub EqualOrFourLines : Type 0
 EqualOrFourLines =
-    (one two : Rectangle) → Written one → Written two → one .rows ≡ two .rows → one .columns ≡ two .columns → EqualTables one two
-    → (one ≡ two) ⊎ FourLinesApart one two
+    (one two : Rectangle) → Undamaged one → Undamaged two → one .rows ≡ two .rows → one .columns ≡ two .columns
+    → EqualTables one two → Alike one two ⊎ FourLinesApart one two
 
 -- ---- Document 01: "On a rectangle that agrees with its tables (every line reads alone as accepted, and each parity line has the
 -- places of the one made from the lines so read) this equals tables made anew, place by place."

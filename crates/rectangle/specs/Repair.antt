@@ -1,5 +1,5 @@
 -- Document 01, "Repair": lines and tables are read, a line buffer and one mark byte per line are written.
-use mathlib.Core.Bool.{cond}
+use mathlib.Core.Bool.{Bool, cond, _||_}
 use mathlib.Core.List.{List}
 use Prim.Native.Nat.{ℕ, _*_}
 use lib.Dec.{eqb}
@@ -21,7 +21,11 @@ pub record StoreRepaired : Type 0 where
   pub lines : List ℕ
   pub marks : List ℕ
 
--- what the steps hand over: answers 0, 11 and 12
+-- the answers with which repair hands lines and marks over: 0, 11 and 12; any other is a refusal
+unfoldable pub handsOver : ℕ → Bool
+handsOver answer = eqb answer 0 || (eqb answer 11 || eqb answer 12)
+
+-- what the steps hand over
 unfoldable pub handedOver : List Group → Repaired → StoreRepaired
 handedOver gs r =
     record {
@@ -31,7 +35,7 @@ handedOver gs r =
       marks = marksOf (r .cells);
     }
 
--- the entry point: a refusal up to 10 writes nothing
+-- the entry point: a refusal writes nothing
 unfoldable pub repairStore : ℕ → ℕ → List ℕ → List ℕ → List ℕ → List ℕ → List ℕ → StoreRepaired
 repairStore rows columns lines rowTable columnTable out marks =
     let refusal = repairRefusal rows columns lines rowTable columnTable out marks in

@@ -12,10 +12,9 @@ use Rattle.linecode.specs.declared.hamming.Answer.{Answer}
 use Rattle.linecode.specs.declared.hamming.Answer.the-variants.{None, Hamming, Protected}
 use Rattle.scheme.specs.Layer.{Cell, Reading, readLine}
 use Rattle.scheme.specs.Visit.{Group, State, cellAt, isFaulty, faultyOf, rebuild, rebuildOnly, settle, mismatch, tryPlaces, tryLines, triable, trial, visit}
-use Rattle.scheme.specs.Repair.{readAll, pass, passesFrom, repair, marksOf}
-use Rattle.scheme.proofs.Grows.{grows-length}
-use Rattle.scheme.proofs.Passes.{by-rounds, passes-grow}
-use Rattle.scheme.proofs.Stays.{readAll-length}
+use Rattle.scheme.specs.Repair.{readAll, pass, repair, marksOf}
+use Rattle.scheme.proofs.Passes.{by-rounds}
+use Rattle.scheme.proofs.Stays.{repair-length}
 use Rattle.rectangle.specs.Store.{lineLayer, readUnder}
 
 -- ---- reading alone gives 0, 1 or 4
@@ -113,8 +112,4 @@ module _ (read : Reading) (gives : (n : ℕ) (found : Word) → read n found .ma
 
 pub repaired-count : (read : Reading) (gs : List Group) (found : List Word)
     → length (marksOf (repair read gs found .cells)) ≡ length found
-unfolding repair
-repaired-count read gs found =
-    length-map (passesFrom read gs (readAll read 0 found) .cells) (λ c. c .mark)
-    ∙ grows-length (passes-grow read gs (readAll read 0 found))
-    ∙ readAll-length read 0 found
+repaired-count read gs found = length-map (repair read gs found .cells) (λ c. c .mark) ∙ repair-length read gs found

@@ -1,23 +1,21 @@
 -- Checks that are turned back write nothing and return zeros; those that are not count every line.
 use mathlib.Core.Path.{_≡_, refl, sym, _∙_, subst}
 use mathlib.Core.Logic.{_⊎_, inl, inr}
-use mathlib.Core.Bool.{Bool, true, false, cond, _&&_, true≢false}
+use mathlib.Core.Bool.{Bool, true, false, true≢false}
 use mathlib.Core.List.{List}
 use Prim.Native.Nat.{ℕ, _*_, _≤_, _<_}
-use lib.Dec.{eqb, leb}
+use lib.Dec.{leb}
 use lib.ListN.{length, getD}
 use Rattle.scheme.specs.Layer.{readLine}
-use Rattle.scheme.specs.Visit.{Group, State}
-use Rattle.scheme.specs.Repair.{faultyCount, agrees, answer, repair}
+use Rattle.scheme.specs.Repair.{repair}
 use Rattle.rectangle.specs.Store.{lineLayer, linesIn, groups}
-use Rattle.rectangle.specs.Refusals.{unless, sidesFit, holds, tablesFit, parityCorrect, every, repairRefusal}
-use Rattle.rectangle.specs.Repair.{StoreRepaired, repaired, handedOver, repairStore}
+use Rattle.rectangle.specs.Refusals.{unless, sidesFit, repairRefusal}
+use Rattle.rectangle.specs.Repair.{StoreRepaired, repaired, handsOver, handedOver, repairStore}
 use Rattle.rectangle.proofs.Buffer.{length-linesIn}
-use Rattle.rectangle.proofs.Runs.{zero-or-not, repair-runs, repair-refused}
+use Rattle.rectangle.proofs.Runs.{zero-or-not, answer-hands-over, refusal-hands-nothing, repair-runs, repair-refused}
 use Rattle.storefile.specs.Header.{headerBytes}
 use Rattle.storefile.specs.Opening.{rowsIn, columnsIn, sidesWithin, contentsFit, openRefusal, opened}
 use Rattle.report.specs.Marks.{countsOf}
-use Rattle.report.specs.Report.{handsOver}
 use Rattle.report.specs.Check.{StoreChecked, refusedWith, repairOpened, checkStore}
 use Rattle.report.specs.Promises.{total, CheckCountsLines, CheckRefusalsWriteNothing}
 use Rattle.storefile.proofs.Openings.{Outcome, accepted, refused, outcome}
@@ -34,25 +32,6 @@ opening-refuses true true false d n = refl
 opening-refuses true true true false n = refl
 opening-refuses true true true true n = absurd (n refl)
 
-repair-refuses : (a b c d e : Bool) → let r = unless a 2 (unless b 5 (unless c 6 (unless d 7 (unless e 9 0)))) in (r ≡ 0 → ⊥)
-    → handsOver r ≡ false
-unfolding handsOver
-repair-refuses false b c d e n = refl
-repair-refuses true false c d e n = refl
-repair-refuses true true false d e n = refl
-repair-refuses true true true false e n = refl
-repair-refuses true true true true false n = refl
-repair-refuses true true true true true n = absurd (n refl)
-
-repair-answers : (gs : List Group) (s : State) → handsOver (answer gs s) ≡ true
-unfolding answer handsOver
-repair-answers gs s = go (eqb (faultyCount s) 0) (agrees gs s)
-  where
-    go : (a b : Bool) → handsOver (cond a (cond b 0 12) 11) ≡ true
-    go true true = refl
-    go true false = refl
-    go false b = refl
-
 -- ---- repair hands over the marks of as many lines, or is refused and writes nothing
 data Repairing (k : ℕ) (out marks : List ℕ) (r : StoreRepaired) : Type 0 where
   over : handsOver (r .answer) ≡ true → length (r .marks) ≡ k → ((n : ℕ) → n < length (r .marks) → getD (r .marks) n 0 ≤ 4)
@@ -60,20 +39,12 @@ data Repairing (k : ℕ) (out marks : List ℕ) (r : StoreRepaired) : Type 0 whe
   none : handsOver (r .answer) ≡ false → r .lines ≡ out → r .marks ≡ marks → Repairing k out marks r
 
 module _ (rows columns : ℕ) (lines rowTable columnTable out marks : List ℕ) where
-  refuses : (repairRefusal rows columns lines rowTable columnTable out marks ≡ 0 → ⊥)
-      → handsOver (repairRefusal rows columns lines rowTable columnTable out marks) ≡ false
-  unfolding repairRefusal
-  refuses d =
-      repair-refuses (sidesFit rows columns) (holds (rows * columns) lines) (tablesFit rows columns rowTable columnTable)
-      (holds (rows * columns) out && eqb (length marks) (rows * columns))
-      (every parityCorrect (groups rows columns rowTable columnTable)) d
-
   handed : Repairing (rows * columns) out marks (handedOver (groups rows columns rowTable columnTable) (repaired rows columns lines rowTable columnTable))
   unfolding handedOver repaired
   handed =
       let gs = groups rows columns rowTable columnTable in
       let found = linesIn (rows * columns) lines in
-      over (repair-answers gs (repair (readLine lineLayer) gs found .cells))
+      over (answer-hands-over gs (repair (readLine lineLayer) gs found .cells))
       (repaired-count (readLine lineLayer) gs found ∙ length-linesIn (rows * columns) lines)
       (repaired-marks (readLine lineLayer) read-mark gs found)
 
@@ -88,7 +59,7 @@ module _ (rows columns : ℕ) (lines rowTable columnTable out marks : List ℕ) 
           (sym (repair-runs rows columns lines rowTable columnTable out marks 0 z refl)) handed
       go (inr d) =
           subst (Repairing (rows * columns) out marks)
-          (sym (repair-refused rows columns lines rowTable columnTable out marks _ refl d)) (none (refuses d) refl refl)
+          (sym (repair-refused rows columns lines rowTable columnTable out marks _ refl d)) (none (refusal-hands-nothing rows columns lines rowTable columnTable out marks d) refl refl)
 
 -- ---- a check is turned back, or counts every line
 data Checks (out marks : List ℕ) (s : StoreChecked) : Type 0 where

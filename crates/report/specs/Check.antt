@@ -3,11 +3,10 @@ use mathlib.Core.Bool.{cond}
 use mathlib.Core.List.{List}
 use Prim.Native.Nat.{ℕ}
 use lib.Dec.{eqb}
-use Rattle.rectangle.specs.Repair.{StoreRepaired, repairStore}
+use Rattle.rectangle.specs.Repair.{StoreRepaired, handsOver, repairStore}
 use Rattle.storefile.specs.Header.{linesPart, rowTablePart, columnTablePart, bytesIn}
 use Rattle.storefile.specs.Opening.{opened}
 use Rattle.report.specs.Marks.{countsOf, noCounts}
-use Rattle.report.specs.Report.{handsOver}
 use Rattle.storefile.specs.declared.opening.Opened.{Opened}
 use Rattle.report.specs.declared.report.Checked.{Checked}
 

@@ -4,10 +4,11 @@ use mathlib.Core.Bool.{true, false}
 use mathlib.Core.List.{List, [], _∷_}
 use Prim.Native.Nat.{ℕ, _+_, _-_, _*_, _≤_, _<_}
 use lib.ListN.{length, take, getD}
+use Rattle.rectangle.specs.Repair.{handsOver}
 use Rattle.storefile.specs.Header.{headerBytes}
 use Rattle.storefile.specs.Opening.{bytesNeeded}
 use Rattle.report.specs.Marks.{countsOf}
-use Rattle.report.specs.Report.{decimal, handsOver}
+use Rattle.report.specs.Report.{decimal}
 use Rattle.report.specs.Check.{refusedWith, checkStore}
 use Rattle.report.specs.declared.marks.Counts.{Counts}
 

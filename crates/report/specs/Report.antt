@@ -1,11 +1,12 @@
 -- Document 01, "Store file": the report that `storecheck` prints.
-use mathlib.Core.Bool.{Bool, cond, _||_}
+use mathlib.Core.Bool.{cond}
 use mathlib.Core.List.{List, [], _∷_, _++_}
 use Prim.Native.Nat.{ℕ, zero, suc, _+_, _/_, _%_}
 use Prim.Native.Char.{code}
 use Prim.Native.String.{[] as none, _∷_ as _then_, String}
 use lib.Dec.{eqb, ltb}
 use lib.ListN.{length, drop}
+use Rattle.rectangle.specs.Repair.{handsOver}
 use Rattle.report.specs.declared.marks.Counts.{Counts}
 use Rattle.report.specs.declared.report.Checked.{Checked}
 
@@ -54,11 +55,7 @@ countLines c =
 unfoldable pub linesAbove : Checked → List ℕ
 linesAbove c = storeLine (c .rows) (c .columns) ++ countLines (c .counts) ++ line (ascii "passes") (c .passes)
 
--- the answers with which repair hands lines and marks over: 0, 11 and 12
-unfoldable pub handsOver : ℕ → Bool
-handsOver answer = eqb answer 0 || (eqb answer 11 || eqb answer 12)
-
--- the report: for another answer only the last line
+-- the report: where repair hands nothing over, only the last line
 unfoldable pub reportText : Checked → List ℕ
 reportText c = cond (handsOver (c .answer)) (linesAbove c) [] ++ line (ascii "answer") (c .answer)
 

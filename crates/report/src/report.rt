@@ -2,8 +2,9 @@
 ghost use mathlib.Core.Path.{_≡_};
 ghost use Prim.Native.Nat.{_+_, _≤_};
 ghost use lib.ListN.{length};
+ghost use Rattle.rectangle.specs.Repair.{handsOver};
 ghost use Rattle.storefile.specs.Bytes.{Put};
-ghost use Rattle.report.specs.Report.{decimal, spaced, line, storeLine, countLines, linesAbove, handsOver, writeReport};
+ghost use Rattle.report.specs.Report.{decimal, spaced, line, storeLine, countLines, linesAbove, writeReport};
 use crate::marks::Counts;
 use storefile::bytes;
 

@@ -12,12 +12,12 @@ use Rattle.linecode.specs.Reading.{readAlone}
 use Rattle.scheme.specs.Repair.{passesFrom, repair, answer}
 use Rattle.rectangle.specs.Store.{readUnder, correctUnder, bytesAt, placesAt, linesIn, row, column, groups}
 use Rattle.rectangle.specs.Refusals.{sideFits, sidesFit, holds, tablesFit, parityCorrect, repairRefusal}
-use Rattle.rectangle.specs.Repair.{repaired, handedOver, repairStore}
+use Rattle.rectangle.specs.Repair.{repaired, handsOver, handedOver, repairStore}
 use Rattle.storefile.specs.Bytes.{numberAt}
 use Rattle.storefile.specs.Header.{headerBytes, linesPart, rowTablePart, columnTablePart, fileLength, entry, header, bytesIn}
 use Rattle.storefile.specs.Opening.{rowsIn, columnsIn, sidesWithin, entryIs, entriesFit, contentsFit, openRefusal, opened}
 use Rattle.report.specs.Marks.{countOf, countsOf, noCounts}
-use Rattle.report.specs.Report.{decimal, spaced, line, storeLine, countLines, linesAbove, handsOver, reportText}
+use Rattle.report.specs.Report.{decimal, spaced, line, storeLine, countLines, linesAbove, reportText}
 use Rattle.report.specs.Check.{refusedWith, repairOpened, counted, checkStore}
 use Rattle.samples.specs.Samples.{sameBytes}
 use Rattle.samples.specs.Report.{ZeroStoreReport}

@@ -1,6 +1,6 @@
 -- `report::report::hands_over` meets its contract.
 use borrow.Author.Tests.{ne-eqb}
-use Rattle.report.specs.Report.{handsOver}
+use Rattle.rectangle.specs.Repair.{handsOver}
 use Rattle.report.proofs.report.hands_over.Statement.{statement}
 use Rattle.report.proofs.report.hands_over.Tie as tie
 
