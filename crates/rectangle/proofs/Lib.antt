@@ -2,6 +2,7 @@
 pub mod Members
 pub mod Stride
 pub mod Spare
+pub mod LineLayer
 pub mod Buffer
 pub mod Copying
 pub mod Adding
@@ -19,7 +20,6 @@ pub mod Pieces
 pub mod SweepingRow
 pub mod Sweeping
 -- The demands: read Kept last.
-pub mod Writing
 pub mod Parity
 pub mod Written
 pub mod Order

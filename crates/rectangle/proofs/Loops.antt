@@ -9,15 +9,14 @@ use lib.ListN.{length, take, drop, set, replicate, length-drop, length-map, List
 use lib.Seq.{take-all, take-at, take-append-le, drop-append-add, drop-drop, paste}
 use Rattle.gf2.specs.Word.{Word, _⊕_, isZero}
 use Rattle.linecode.specs.Places.{linePlaces, lineBytes, loaded, lineOf}
-use Rattle.linecode.proofs.Line.{bytes-is}
-use Rattle.linecode.proofs.Bytes.{Bytes, bytes-append, bytes-bytesOf}
+use Rattle.linecode.proofs.Bytes.{Bytes, bytes-append}
 use Rattle.scheme.specs.Layer.{Cell, Reading, readLine, Promises}
 use Rattle.scheme.specs.Visit.{Group, State, lineAt, sum}
 use Rattle.scheme.specs.Repair.{readAll, pass, agrees, linesOf, marksOf}
 use Rattle.scheme.specs.Demand3.{_∈_, wordAt}
 use Rattle.scheme.proofs.Width.{Wide, wide-at, read-width}
 use Rattle.rectangle.specs.Store.{lineLayer, bytesAt, placesAt, linesIn, bufferOf, putBytes, putLine, groups}
-use Rattle.rectangle.proofs.Spare.{length-lineOf}
+use Rattle.rectangle.proofs.Spare.{bytes-is, length-lineOf, bytes-lineOf}
 use Rattle.rectangle.proofs.Buffer.{Sized, length-placesAt, placesAt-bufferOf, putLine-bufferOf, length-bufferOf, length-linesIn, linesIn-at}
 use Rattle.rectangle.proofs.Groups.{by-groups}
 
@@ -64,9 +63,8 @@ put-next ws old w =
 
 -- what is written is bytes
 pub bytes-bufferOf : (ws : List Word) → Bytes (bufferOf ws)
-unfolding lineOf
 bytes-bufferOf [] = tt
-bytes-bufferOf (w ∷ ws) = bytes-append (lineOf w) (bufferOf ws) (bytes-bytesOf lineBytes _) (bytes-bufferOf ws)
+bytes-bufferOf (w ∷ ws) = bytes-append (lineOf w) (bufferOf ws) (bytes-lineOf w) (bytes-bufferOf ws)
 
 -- ---- the store under repair as its line buffer and its marks
 set-map : {A B : Type 0} (f : A → B) (l : List A) (n : ℕ) (a : A) → map f (set l n a) ≡ set (map f l) n (f a)

@@ -10,20 +10,24 @@ use Rattle.linecode.specs.Reading.{readAlone}
 use Rattle.scheme.specs.Layer.{Reading, Layer, Cell, readLine}
 use Rattle.scheme.specs.Visit.{Group}
 
--- reading a line alone, writing it from its data, and the test that it is correct, each under the line's address, which this
--- line code does not use
+-- reading a line alone, writing it from its data, and when it is correct, each under the line's address, which this line code
+-- does not use
 unfoldable pub readUnder : Reading
 readUnder address found = record { line = readAlone found .word; mark = readAlone found .mark }
 
 unfoldable pub writeUnder : ℕ → List ℕ → Word
 writeUnder address payload = codeword (bitsOf payload)
 
-unfoldable pub correctUnder : ℕ → Word → Bool
-correctUnder address w = isCorrect w
+unfoldable pub CorrectUnder : ℕ → Word → Type 0
+CorrectUnder address w = Correct w
+
+-- the same as a test
+unfoldable pub isCorrectUnder : ℕ → Word → Bool
+isCorrectUnder address w = isCorrect w
 
 -- the line code as repair sees it; a line's address is its number
 abbrev pub lineLayer : Layer
-lineLayer = record { width = linePlaces; address = λ n. n; read = readUnder; Correct = λ address w. Correct w }
+lineLayer = record { width = linePlaces; address = λ n. n; read = readUnder; Correct = CorrectUnder }
 
 -- line n of a buffer: its 70 bytes, and its places
 unfoldable pub bytesAt : List ℕ → ℕ → List ℕ
