@@ -6,7 +6,6 @@ use native.Mathlib.Omega.{arith}
 use lib.ListN.{length, getD, replicate, length-replicate, getD-replicate}
 use Rattle.gf2.specs.Word.{Word, _⊕_}
 use Rattle.linecode.specs.Places.{linePlaces, lineOf}
-use Rattle.linecode.proofs.Line.{bytes-is}
 use Rattle.scheme.specs.Layer.{readLine}
 use Rattle.scheme.specs.Visit.{Group, State, lineAt, faultyOf, sum}
 use Rattle.scheme.specs.Repair.{Repaired, readAll, passesFrom, repair, linesOf, marksOf, answer}
