@@ -12,6 +12,7 @@ use Rattle.scheme.specs.Repair.{Repaired, readAll, passesFrom, repair, linesOf,
 use Rattle.rectangle.specs.Store.{lineLayer, placesAt, bytesAt, linesIn, bufferOf}
 use Rattle.rectangle.specs.Refusals.{repairRefusal}
 use Rattle.rectangle.specs.Repair.{repaired, handedOver, StoreRepaired, repairStore}
+use Rattle.rectangle.proofs.Spare.{bytes-is}
 use Rattle.rectangle.proofs.Buffer.{length-placesAt}
 use Rattle.rectangle.proofs.Runs.{repair-runs, repair-refused}
 use Rattle.groups.specs.Lent.{Beside, Tracked, Carried, Rectangular, Room, membersOf, groupOf}
