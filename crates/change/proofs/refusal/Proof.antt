@@ -77,7 +77,8 @@ alone-at-requires c κs = line-room _ _ _ _ _ (fit (c .before .before .before)) 
 returns-4 : tie.Need-returns-4
 returns-4 c =
     let parities = c .before .before in
-    rw (← left (parities .before), sym (parities .parities-correct .ensures _ _) ∙ not-true _ (c .if4 .taken))
+    let a = parities .before .before .before .before .before .before .before .before .before .args in
+    rw (← left (parities .before), sym (parities .parities-correct .ensures (a .rows) (a .columns)) ∙ not-true _ (c .if4 .taken))
 
 -- past refusal 9 the definition tests the line
 last : (c : tie.Else4)
@@ -86,7 +87,8 @@ last : (c : tie.Else4)
     ≡ changeRefusal (a .rows) (a .columns) (a .lines .now) (a .row-table .now) (a .column-table .now) (a .n) (a .payload .now)
 last c =
     let parities = c .before .before in
-    rw (← left (parities .before), sym (parities .parities-correct .ensures _ _) ∙ not-false _ (c .if4 .left))
+    let a = parities .before .before .before .before .before .before .before .before .before .args in
+    rw (← left (parities .before), sym (parities .parities-correct .ensures (a .rows) (a .columns)) ∙ not-false _ (c .if4 .left))
 
 returns-5 : tie.Need-returns-5
 returns-5 c =
