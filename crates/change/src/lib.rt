@@ -16,16 +16,14 @@ ghost use mathlib.Core.Path.{_≡_};
 ghost use mathlib.Core.Bool.{_&&_};
 ghost use Prim.Native.Nat.{ℕ, suc, _*_, _≤_};
 ghost use lib.ListN.{length};
-ghost use Rattle.linecode.specs.Places.{lineOf};
-ghost use Rattle.rectangle.specs.Store.{aloneAt, rowGroup, columnGroup};
+ghost use Rattle.rectangle.specs.Store.{aloneAt, inBytes, rowGroup, columnGroup};
 ghost use Rattle.rectangle.specs.Refusals.{parityCorrect, changeRefusal};
 ghost use Rattle.rectangle.specs.Change.{LineChanged, changeLine};
 
 // Line n of a buffer as it reads alone.
 fn alone_at(buffer: &[u8], n: usize) -> Reading
     requires { ⌜ suc n * 70 ≤ length (now buffer) ⌝ }
-    ensures { λ r. ⌜ r
-        ≡ record { line = lineOf (aloneAt (now (buffer .entry)) n .line); mark = aloneAt (now (buffer .entry)) n .mark } ⌝ }
+    ensures { λ r. ⌜ r ≡ inBytes (aloneAt (now (buffer .entry)) n) ⌝ }
 {
     alone::read_line(line_at(buffer, n))
 }

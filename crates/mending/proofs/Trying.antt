@@ -15,7 +15,7 @@ use Rattle.linecode.specs.Places.{linePlaces, places, lineOf}
 use Rattle.linecode.specs.declared.alone.Reading.{Reading}
 use Rattle.scheme.specs.Layer.{Cell, readLine}
 use Rattle.scheme.specs.Visit.{State, cellAt, isFaulty, tryPlaces, tryLines}
-use Rattle.rectangle.specs.Store.{lineLayer, bytesAt, stride}
+use Rattle.rectangle.specs.Store.{lineLayer, bytesAt, inBytes, stride}
 use Rattle.rectangle.proofs.Spare.{length-places, places-lineOf, places-flipped}
 use Rattle.groups.specs.Lent.{Room, Carried, Some, Numbered}
 use Rattle.groups.proofs.Walk.{Walking, walk-start, walk-in, walk-next, left-some, left-none}
@@ -42,7 +42,7 @@ module _ (line ps : List ℕ) (n j : ℕ) (s : Searching line ps n j) where
 
   module _ (whole : length line ≡ 70) (more : j < length ps) (p : ℕ) (p-is : p ≡ getD ps j 0) (flipped : List ℕ)
       (turned : flipped ≡ lineOf (flip p (places line))) (tried : Reading)
-      (read : tried ≡ record { line = lineOf (readLine lineLayer n (places flipped) .line); mark = readLine lineLayer n (places flipped) .mark }) where
+      (read : tried ≡ inBytes (readLine lineLayer n (places flipped))) where
     trial-is : (c : Cell) → c .line ≡ places line → readLine lineLayer n (flip (getD ps j 0) (c .line)) ≡ readLine lineLayer n (places flipped)
     trial-is c e = ap (readLine lineLayer n) (ap₂ flip (sym p-is) e ∙ sym (places-flipped line flipped p whole turned))
 

@@ -8,14 +8,13 @@ use native.Mathlib.Omega.{arith}
 use borrow.Author.Tests.{eq-eqb, ne-eqb}
 use lib.ListN.{length, drop, length-drop}
 use lib.Seq.{length-take-le}
-use Rattle.linecode.specs.Places.{linePlaces, lineBytes, places, lineOf}
-use Rattle.linecode.specs.Entry.{reading}
+use Rattle.linecode.specs.Places.{linePlaces, lineBytes, places}
 use Rattle.linecode.specs.declared.alone.Reading.{Reading}
 use Rattle.scheme.proofs.Width.{read-width}
-use Rattle.rectangle.specs.Store.{lineLayer, bytesAt, placesAt, putBytes, putLine, aloneAt}
+use Rattle.rectangle.specs.Store.{lineLayer, bytesAt, placesAt, putBytes, putLine, aloneAt, inBytes}
 use Rattle.rectangle.specs.Refusals.{acceptedAt}
 use Rattle.rectangle.proofs.Spare.{length-places}
-use Rattle.rectangle.proofs.LineLayer.{kept, read-as}
+use Rattle.rectangle.proofs.LineLayer.{kept}
 
 -- a line that lies inside the buffer has 70 bytes
 pub seventy : (buffer : List ℕ) (n : ℕ) → suc n * 70 ≤ length buffer → length (bytesAt buffer n) ≡ 70
@@ -29,14 +28,8 @@ length-alone buffer n h =
     read-width lineLayer kept (lineLayer .address n) (places (bytesAt buffer n)) (length-places (bytesAt buffer n) (seventy buffer n h))
 
 module _ (buffer : List ℕ) (n : ℕ) where
-  -- what the code reads from the line's bytes
-  pub alone-read : (line : List ℕ) (r : Reading) → line ≡ bytesAt buffer n → r ≡ reading line
-      → r ≡ record { line = lineOf (aloneAt buffer n .line); mark = aloneAt buffer n .mark }
-  unfolding aloneAt placesAt
-  alone-read line r e f = f ∙ ap reading e ∙ read-as n (bytesAt buffer n)
-
   -- a reading, stored as line m of another buffer
-  pub put-alone : (out : List ℕ) (m : ℕ) (r : Reading) → r ≡ record { line = lineOf (aloneAt buffer n .line); mark = aloneAt buffer n .mark }
+  pub put-alone : (out : List ℕ) (m : ℕ) (r : Reading) → r ≡ inBytes (aloneAt buffer n)
       → (after : List ℕ) → after ≡ putBytes out m (r .line)
       → (after ≡ putLine out m (aloneAt buffer n .line)) × (r .mark ≡ aloneAt buffer n .mark)
   unfolding putLine

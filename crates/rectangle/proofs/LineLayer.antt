@@ -17,7 +17,7 @@ use Rattle.linecode.proofs.Promises.{promises}
 use Rattle.linecode.proofs.LineLayout.{layout}
 use Rattle.scheme.specs.Layer.{readLine, CorrectLine, parityAddress, ReadsAs, Promises}
 use Rattle.scheme.specs.Visit.{Group}
-use Rattle.rectangle.specs.Store.{readUnder, writeUnder, CorrectUnder, isCorrectUnder, lineLayer}
+use Rattle.rectangle.specs.Store.{readUnder, writeUnder, CorrectUnder, isCorrectUnder, lineLayer, bytesAt, placesAt, aloneAt, inBytes}
 use Rattle.rectangle.specs.Refusals.{parityCorrect}
 use Rattle.rectangle.specs.Change.{newLine}
 
@@ -46,10 +46,15 @@ kept =
     detected a w found (inr q) = inr q
 
 -- ---- reading: bytes that are read as line n
-pub read-as : (n : ℕ) (line : List ℕ)
-    → reading line ≡ record { line = lineOf (readLine lineLayer n (places line) .line); mark = readLine lineLayer n (places line) .mark }
+pub read-as : (n : ℕ) (line : List ℕ) → reading line ≡ inBytes (readLine lineLayer n (places line))
 unfolding reading readUnder
 read-as n line = refl
+
+-- the bytes of line n of a buffer
+pub read-at : (buffer : List ℕ) (n : ℕ) (line : List ℕ) (r : Reading) → line ≡ bytesAt buffer n → r ≡ reading line
+    → r ≡ inBytes (aloneAt buffer n)
+unfolding aloneAt placesAt
+read-at buffer n line r e f = f ∙ ap reading e ∙ read-as n (bytesAt buffer n)
 
 -- ---- correct lines: the test of a group's parity line, made on its bytes
 pub tested-as : (g : Group) (line : List ℕ) → g .parity ≡ places line → isCorrect (places line) ≡ parityCorrect g

@@ -7,6 +7,7 @@ use Rattle.gf2.specs.Word.{Word}
 use Rattle.linecode.specs.Places.{linePlaces, lineBytes, bitsOf, places, lineOf}
 use Rattle.linecode.specs.Code.{upFrom, codeword, Correct, isCorrect}
 use Rattle.linecode.specs.Reading.{readAlone}
+use Rattle.linecode.specs.declared.alone.Reading as Given
 use Rattle.scheme.specs.Layer.{Reading, Layer, Cell, readLine}
 use Rattle.scheme.specs.Visit.{Group}
 
@@ -56,6 +57,10 @@ putLine buffer n w = putBytes buffer n (lineOf w)
 -- line n as it reads alone
 unfoldable pub aloneAt : List ℕ → ℕ → Cell
 aloneAt buffer n = readLine lineLayer n (placesAt buffer n)
+
+-- the same as a function gives it: 70 bytes with spare bits 0, and the mark
+abbrev pub inBytes : Cell → Given.Reading
+inBytes c = record { line = lineOf (c .line); mark = c .mark }
 
 -- so many line numbers, from the first on at equal steps
 abbrev pub stride : ℕ → ℕ → ℕ → List ℕ

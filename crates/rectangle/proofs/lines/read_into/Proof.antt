@@ -4,7 +4,8 @@ use mathlib.Core.List.{List}
 use Prim.Native.Nat.{ℕ}
 use Rattle.linecode.specs.Places.{places}
 use Rattle.sweep.specs.Sums.{bothSums}
-use Rattle.rectangle.proofs.Alone.{alone-read, put-alone}
+use Rattle.rectangle.proofs.LineLayer.{read-at}
+use Rattle.rectangle.proofs.Alone.{put-alone}
 use borrow.Author.Needs.{needs}
 use Rattle.rectangle.proofs.lines.read_into.Statement.{statement}
 use Rattle.rectangle.proofs.lines.read_into.Tie as tie
@@ -32,7 +33,7 @@ returns c =
     let loaded = tested .before in
     let start = loaded .before .before .before in
     put-alone (start .args .found .now) (start .args .n) _ _ _
-    (alone-read (start .args .found .now) (start .args .n) _ _ (loaded .line-at .ensures)
+    (read-at (start .args .found .now) (start .args .n) _ _ (loaded .line-at .ensures)
     (sym (tested .is-untouched .ensures (put .before .before .if1 .taken))))
     _ (put .put-line .ensures)
 
@@ -52,7 +53,7 @@ returns-2 c =
     let loaded = hurt .before .before .before in
     let start = loaded .before .before .before in
     put-alone (start .args .found .now) (start .args .n) _ _ _
-    (alone-read (start .args .found .now) (start .args .n) _ _ (loaded .line-at .ensures) (hurt .read-summed .ensures))
+    (read-at (start .args .found .now) (start .args .n) _ _ (loaded .line-at .ensures) (hurt .read-summed .ensures))
     _ (put .put-line2 .ensures)
 
 pub read-into-spec : {M : Type 1} → statement M

@@ -10,7 +10,7 @@ use Rattle.linecode.specs.Places.{places}
 use Rattle.linecode.specs.declared.alone.Reading.{Reading}
 use Rattle.sweep.specs.Sums.{bothSums}
 use Rattle.rectangle.specs.Store.{bytesAt}
-use Rattle.rectangle.proofs.Alone.{alone-read}
+use Rattle.rectangle.proofs.LineLayer.{read-at}
 use Rattle.rectangle.proofs.Pieces.{nth-within, PieceTurn, piece-starts, piece-stands, piece-ends}
 use Rattle.rectangle.proofs.tables.all_untouched.Statement.{statement}
 use Rattle.rectangle.proofs.tables.all_untouched.Tie as tie
@@ -60,7 +60,7 @@ loop-again c =
     let loaded = tested .before in
     let here = loaded .before .before .loop in
     let read =
-    alone-read _ _ _ _ (loaded .line-at .ensures) (sym (tested .is-untouched .ensures (not-false _ (c .if1 .left)))) in (
+    read-at _ _ _ _ (loaded .line-at .ensures) (sym (tested .is-untouched .ensures (not-false _ (c .if1 .left)))) in (
       omega arith,
       piece-stands _ _ _ (here .inv .1) _ (loaded .line-at .ensures) (ap (λ (r : Reading). r .line) read) (ap (λ (r : Reading). r .mark) read),
     )
