@@ -1,20 +1,18 @@
 -- The laws of a line's bytes and places that are promised upward.
 use mathlib.Core.Path.{_≡_, refl, sym, ap, _∙_}
-use mathlib.Core.Bool.{false}
 use mathlib.Core.List.{List, [], _++_, append-assoc}
-use Prim.Native.Nat.{ℕ, _/_, _%_, _*_, _<_}
+use Prim.Native.Nat.{ℕ, _*_}
 use native.Mathlib.Omega.{arith}
-use lib.ListN.{length, take, getD, replicate}
+use lib.ListN.{length, take, replicate}
 use lib.Seq.{take-at}
 use Rattle.gf2.specs.Word.{Word, zeros}
-use Rattle.gf2.specs.Check.{bit}
-use Rattle.linecode.specs.Places.{dataPlaces, protectedPlaces, linePlaces, lineBytes, bitsOf, loaded, places, lineOf}
+use Rattle.linecode.specs.Places.{protectedPlaces, linePlaces, lineBytes, bitsOf, loaded, places, lineOf}
 use Rattle.linecode.specs.Code.{codeword}
 use Rattle.linecode.specs.Entry.{written}
 use Rattle.linecode.specs.Promises.{Layout}
-use Rattle.linecode.proofs.Bytes.{byte-at, length-bitsOf}
-use Rattle.linecode.proofs.Line.{data-is, places-is, bytes-is, length-places, length-lineOf, bytes-lineOf, places-lineOf, lineOf-xor, length-front, places-line, crcEnd, hammingEnd, protected-place, protected-bit}
-use Rattle.linecode.proofs.Loading.{data-loaded}
+use Rattle.linecode.proofs.Bytes.{length-bitsOf}
+use Rattle.linecode.proofs.Line.{data-is, places-is, bytes-is, length-places, length-lineOf, places-lineOf, lineOf-xor, length-front, places-line, crcEnd, hammingEnd, protected-place, protected-bit}
+use Rattle.linecode.proofs.Loading.{data-loaded, loaded-whole}
 use Rattle.linecode.proofs.Codeword.{length-codeword}
 
 back : (w : Word) → length w ≡ linePlaces → places (lineOf w) ≡ w
@@ -49,13 +47,13 @@ layout =
       byteCount = bytes-is;
       placed = length-places;
       seventy = length-lineOf;
-      bytes = λ w i. byte-at (lineOf w) i (bytes-lineOf w);
       back = back;
       added = lineOf-xor;
       none = none;
       blank = blank;
       bits = λ line e i h. protected-place line e i h ∙ protected-bit line e i h;
       front = front;
+      whole = loaded-whole;
       loads = λ payload e. data-loaded payload (loaded payload) e refl;
       writes = writes;
     }

@@ -63,7 +63,6 @@ pub record Layout : Type 0 where
   -- 70 bytes have all places, and a line made from places has 70 bytes
   pub placed : (line : List ℕ) → length line ≡ 70 → length (places line) ≡ linePlaces
   pub seventy : (w : Word) → length (lineOf w) ≡ 70
-  pub bytes : (w : Word) (i : ℕ) → getD (lineOf w) i 0 < 256
   -- all places, made into bytes, are read from them again
   pub back : (w : Word) → length w ≡ linePlaces → places (lineOf w) ≡ w
   -- the exclusive or of lines with spare bits 0, byte by byte, is that of their places
@@ -75,6 +74,8 @@ pub record Layout : Type 0 where
   pub bits : (line : List ℕ) → length line ≡ 70 → (i : ℕ) → i < 543 → getD (places line) i false ≡ bit (i % 8) (getD line (i / 8) 0)
   -- so the first 536 places are the bits of the first 67 bytes
   pub front : (line : List ℕ) → length line ≡ 70 → take 536 (places line) ≡ bitsOf (take 67 line)
+  -- 70 bytes are loaded as they stand
+  pub whole : (s : List ℕ) → length s ≡ 70 → loaded s ≡ s
   -- a line loaded from 64 bytes has them as its data, and a line written has the places that the code gives
   pub loads : (payload : List ℕ) → length payload ≡ 64 → dataOf (places (loaded payload)) ≡ bitsOf payload
   pub writes : (payload : List ℕ) → length payload ≡ 64 → places (written payload) ≡ codeword (bitsOf payload)

@@ -2,15 +2,15 @@
 -- here goes from what the functions below give, in bytes, to line n, or to a group's parity line.
 use mathlib.Core.Path.{_≡_, refl, sym, ap, _∙_, subst}
 use mathlib.Core.Logic.{_⊎_, inl, inr}
-use mathlib.Core.Bool.{Bool, true}
+use mathlib.Core.Bool.{true}
 use mathlib.Core.List.{List}
 use Prim.Native.Nat.{ℕ, suc-le-suc}
 use lib.ListN.{length}
 use Rattle.gf2.specs.Word.{Word}
-use Rattle.linecode.specs.Places.{linePlaces, dataBytes, bitsOf, places, lineOf, loaded}
+use Rattle.linecode.specs.Places.{linePlaces, dataBytes, places, lineOf, loaded}
 use Rattle.linecode.specs.Code.{dataOf, codeword, Correct, isCorrect}
 use Rattle.linecode.specs.Reading.{readAlone}
-use Rattle.linecode.specs.Entry.{written, reading}
+use Rattle.linecode.specs.Entry.{reading}
 use Rattle.linecode.specs.Promises as Line
 use Rattle.linecode.specs.declared.alone.Reading.{Reading}
 use Rattle.linecode.proofs.Promises.{promises}

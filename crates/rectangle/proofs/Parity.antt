@@ -1,5 +1,5 @@
 -- "Of correct lines a parity line is itself a correct line": tables made from lines that read alone as accepted.
-use mathlib.Core.Path.{_≡_, sym, ap, _∙_}
+use mathlib.Core.Path.{_≡_, ap}
 use mathlib.Core.Logic.{_⊎_, inl, inr}
 use mathlib.Core.Bool.{true, not}
 use mathlib.Core.List.{List}
@@ -12,7 +12,7 @@ use Rattle.gf2.specs.Word.{Word}
 use Rattle.gf2.proofs.Weight.{distance-self}
 use Rattle.linecode.specs.Places.{lineBytes}
 use Rattle.scheme.specs.Layer.{readLine, CorrectLine, parityAddress, ReadsAs, Promises}
-use Rattle.scheme.specs.Visit.{Group, sum}
+use Rattle.scheme.specs.Visit.{sum}
 use Rattle.scheme.specs.Demand3.{_∈_}
 use Rattle.scheme.proofs.Written.{parity-correct}
 use Rattle.rectangle.specs.Store.{lineLayer, placesAt, aloneAt, stride, row, column, rowGroup, columnGroup, groups}

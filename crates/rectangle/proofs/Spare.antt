@@ -1,12 +1,11 @@
 -- A line's 70 bytes and its 553 places, as the line code promises them.
 use mathlib.Core.Path.{_≡_, sym, ap, _∙_}
-use mathlib.Core.List.{List, [], _∷_}
-use Prim.Native.Nat.{ℕ, suc, _<_}
-use lib.ListN.{length, getD, replicate}
+use mathlib.Core.List.{List, []}
+use Prim.Native.Nat.{ℕ}
+use lib.ListN.{length, replicate}
 use Rattle.gf2.specs.Word.{Word, _⊕_, zeros, flip}
 use Rattle.gf2.proofs.Weight.{length-flip}
 use Rattle.linecode.specs.Places.{linePlaces, lineBytes, places, lineOf, xorBytes}
-use Rattle.linecode.proofs.Bytes.{Bytes}
 use Rattle.linecode.proofs.LineLayout.{layout}
 
 pub places-is : linePlaces ≡ 553
@@ -36,14 +35,6 @@ pub places-flipped : (line flipped : List ℕ) (i : ℕ) → length line ≡ 70 
     → places flipped ≡ flip i (places line)
 places-flipped line flipped i e q =
     ap places q ∙ places-lineOf (flip i (places line)) (length-flip i (places line) ∙ length-places line e)
-
--- what is written is bytes
-pub bytes-lineOf : (w : Word) → Bytes (lineOf w)
-bytes-lineOf w = each (lineOf w) (layout .bytes w)
-  where
-    each : (l : List ℕ) → ((i : ℕ) → getD l i 0 < 256) → Bytes l
-    each [] h = tt
-    each (b ∷ l) h = (h 0, each l (λ i. h (suc i)))
 
 -- a line of zeros
 pub none-line : lineOf [] ≡ replicate 70 0
