@@ -9,8 +9,7 @@ use borrow.Author.Tests.{eqb-true, ltb-true, ne-eqb}
 use lib.Dec.{eqb, ltb}
 use lib.ListN.{length}
 use Rattle.linecode.specs.Places.{dataBytes}
-use Rattle.linecode.specs.Code.{isCorrect}
-use Rattle.rectangle.specs.Store.{correctUnder, placesAt, putLine}
+use Rattle.rectangle.specs.Store.{putLine, rowGroup, columnGroup}
 use Rattle.rectangle.specs.Refusals.{unless, parityCorrect, acceptedAt, changeRefusal}
 use Rattle.rectangle.specs.Change.{newLine, difference, addTo, LineChanged, changeLine}
 use Rattle.rectangle.proofs.Groups.{sides, row-below, column-below}
@@ -43,7 +42,8 @@ module _ (rows columns : ℕ) (lines rowTable columnTable : List ℕ) where
     changeTests =
         unless (eqb (length payload) 64) 7
         (unless (ltb n (rows * columns)) 8
-        (unless (isCorrect (placesAt rowTable (n / columns)) && isCorrect (placesAt columnTable (n % columns))) 9
+        (unless (parityCorrect (rowGroup columns rowTable (n / columns))
+        && parityCorrect (columnGroup rows columns columnTable (n % columns))) 9
         (unless (acceptedAt lines n) 10 0)))
 
     pub change-sizes : (r : ℕ) → r ≡ sizeTests rows columns lines rowTable columnTable → (r ≡ 0 → ⊥) → changeRefusal rows columns lines rowTable columnTable n payload ≡ r
@@ -51,7 +51,7 @@ module _ (rows columns : ℕ) (lines rowTable columnTable : List ℕ) where
     change-sizes r e d = sizes-refused rows columns lines rowTable columnTable r _ e d
 
     pub change-next : SizesPass rows columns lines rowTable columnTable → changeRefusal rows columns lines rowTable columnTable n payload ≡ changeTests
-    unfolding changeRefusal dataBytes parityCorrect correctUnder
+    unfolding changeRefusal dataBytes
     change-next p = sizes-next rows columns lines rowTable columnTable p _
 
     -- nothing refused

@@ -14,23 +14,21 @@ use rectangle::sizes;
 use single::alone;
 ghost use mathlib.Core.Path.{_≡_};
 ghost use mathlib.Core.Bool.{_&&_};
-ghost use Prim.Native.Nat.{suc, _*_, _≤_};
+ghost use Prim.Native.Nat.{ℕ, suc, _*_, _≤_};
 ghost use lib.ListN.{length};
-ghost use Rattle.linecode.specs.Code.{isCorrect};
-ghost use Rattle.linecode.specs.Entry.{reading};
-ghost use Rattle.rectangle.specs.Store.{bytesAt, placesAt};
-ghost use Rattle.rectangle.specs.Refusals.{changeRefusal};
+ghost use Rattle.rectangle.specs.Store.{aloneAt, inBytes, rowGroup, columnGroup};
+ghost use Rattle.rectangle.specs.Refusals.{parityCorrect, changeRefusal};
 ghost use Rattle.rectangle.specs.Change.{LineChanged, changeLine};
 
 // Line n of a buffer as it reads alone.
 fn alone_at(buffer: &[u8], n: usize) -> Reading
     requires { ⌜ suc n * 70 ≤ length (now buffer) ⌝ }
-    ensures { λ r. ⌜ r ≡ reading (bytesAt (now (buffer .entry)) n) ⌝ }
+    ensures { λ r. ⌜ r ≡ inBytes (aloneAt (now (buffer .entry)) n) ⌝ }
 {
     alone::read_line(line_at(buffer, n))
 }
 
-// Whether the parity lines of a row and of a column are correct lines, spare bits apart.
+// Whether the parity lines of a row and of a column are correct lines, spare bits apart, in a rectangle of any sides.
 fn parities_correct(
     row_table: &[u8],
     row: RowIndex,
@@ -38,9 +36,9 @@ fn parities_correct(
     column: ColumnIndex,
 ) -> bool
     requires { ⌜ (suc (row .0) * 70 ≤ length (now «row_table»)) × (suc (column .0) * 70 ≤ length (now «column_table»)) ⌝ }
-    ensures { λ r. ⌜ r
-        ≡ isCorrect (placesAt (now («row_table» .entry)) (row .0))
-        && isCorrect (placesAt (now («column_table» .entry)) (column .0)) ⌝ }
+    ensures { λ r. ⌜ ((rows columns : ℕ) → r
+        ≡ parityCorrect (rowGroup columns (now («row_table» .entry)) (row .0))
+        && parityCorrect (columnGroup rows columns (now («column_table» .entry)) (column .0))) ⌝ }
 {
     let of_row = alone::is_correct(row_parity(row_table, row));
     let of_column = alone::is_correct(column_parity(column_table, column));

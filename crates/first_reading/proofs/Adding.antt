@@ -13,14 +13,13 @@ use lib.ListN.{length, getD, set, length-set, List·getD-append, List·getD-eq-d
 use lib.Seq.{getD-set-same, getD-set-other, getD-at}
 use Rattle.gf2.specs.Word.{Word, _⊕_}
 use Rattle.linecode.specs.Places.{linePlaces, places, lineOf, xorBytes}
-use Rattle.linecode.proofs.Line.{bytes-is, lineOf-xor}
 use Rattle.scheme.specs.Layer.{Cell}
 use Rattle.scheme.specs.Visit.{Group, State, cellAt, lineAt, isFaulty, select, sum}
 use Rattle.scheme.specs.Demand3.{_∈_}
-use Rattle.rectangle.specs.Store.{readUnder, bytesAt, placesAt, putBytes, aloneAt, stride, row, column}
+use Rattle.rectangle.specs.Store.{bytesAt, placesAt, putBytes, aloneAt, stride, row, column}
 use Rattle.rectangle.proofs.Buffer.{length-placesAt}
 use Rattle.rectangle.proofs.Groups.{row-number, column-number, line-inside}
-use Rattle.rectangle.proofs.Spare.{places-lineOf}
+use Rattle.rectangle.proofs.Spare.{bytes-is, places-lineOf, lineOf-xor}
 use Rattle.rectangle.proofs.Stride.{in-stride}
 use Rattle.groups.specs.Lent.{Beside, membersOf, groupOf}
 use Rattle.groups.proofs.Numbers.{row-of, column-of, members-rising, homes, members-few}
@@ -112,9 +111,9 @@ module _ (rows columns : ℕ) (parity : ℕ → Word) (found lacks faulty : List
           ∙ sym (List·getD-eq-default (readFirst found n) (record { line = []; mark = 0 }) {n = m} (omega (arith, length-readFirst found n)))
 
   wide : length (cell .line) ≡ linePlaces
-  unfolding cell aloneAt readUnder
+  unfolding cell aloneAt
   wide =
-      read-long (placesAt found n)
+      read-long n (placesAt found n)
       (length-placesAt (rows * columns) found (foundBytes ∙ ap (λ (i : ℕ). rows * columns * i) (sym bytes-is)) n inside)
 
   changed : lineAt t n ≡ lineAt s n ⊕ cell .line

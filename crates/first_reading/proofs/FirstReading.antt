@@ -9,15 +9,13 @@ use lib.Seq.{drop-cons, drop-at, set-at, append-snoc, take-append-le, drop-appen
 use Rattle.gf2.specs.Word.{Word}
 use Rattle.linecode.specs.Places.{linePlaces, lineBytes, lineOf}
 use Rattle.linecode.specs.Code.{upFrom}
-use Rattle.linecode.specs.Entry.{reading}
-use Rattle.linecode.specs.declared.alone.Reading.{Reading}
-use Rattle.linecode.proofs.Line.{bytes-is}
 use Rattle.scheme.specs.Layer.{Cell, readLine}
 use Rattle.scheme.specs.Visit.{State, cellAt, lineAt}
 use Rattle.scheme.specs.Repair.{readAll, linesOf, marksOf}
 use Rattle.scheme.proofs.Width.{Wide, wide-at}
-use Rattle.rectangle.specs.Store.{lineLayer, readUnder, bytesAt, placesAt, linesIn, bufferOf, putBytes, putLine, aloneAt}
-use Rattle.rectangle.proofs.Kept.{kept}
+use Rattle.rectangle.specs.Store.{lineLayer, bytesAt, placesAt, linesIn, bufferOf, putLine, aloneAt}
+use Rattle.rectangle.proofs.LineLayer.{kept}
+use Rattle.rectangle.proofs.Spare.{bytes-is}
 use Rattle.rectangle.proofs.Buffer.{length-bufferOf, bytesAt-bufferOf}
 use Rattle.rectangle.proofs.Loops.{put-next, reading-wide}
 use Rattle.rectangle.proofs.Handed.{read-from}
@@ -71,24 +69,17 @@ mark-next ms old n m e h =
     ∙ set-at ms (getD old n 0) (drop (suc n) old) m n e
     ∙ sym (append-snoc ms m (drop (suc n) old))
 
--- line n as it was read alone
-pub alone-is : (found : List ℕ) (n : ℕ)
-    → reading (bytesAt found n) ≡ record { line = lineOf (aloneAt found n .line); mark = aloneAt found n .mark }
-unfolding reading aloneAt readUnder placesAt
-alone-is found n = refl
-
 pub begun-next : (found out marks : List ℕ) (n : ℕ) (after : List ℕ) (mark : ℕ) → Begun out marks (readFirst found n) → n < length marks
-    → after ≡ putBytes out n (reading (bytesAt found n) .line) → mark ≡ reading (bytesAt found n) .mark
+    → after ≡ putLine out n (aloneAt found n .line) → mark ≡ aloneAt found n .mark
     → Begun after (set marks n mark) (readFirst found (suc n))
-unfolding putLine
 begun-next found out marks n after mark p h a q =
     record {
       lines =
           again (bufferOf (linesOf (readFirst found (suc n)))) _ after _
           (a
-          ∙ ap₂ (λ (b : List ℕ) (x : List ℕ). putBytes b n x) (p .lines) (ap (λ (y : Reading). y .line) (alone-is found n))
-          ∙ ap₂ (λ (i j : ℕ). putBytes (bufferOf ws ++ drop (j * i) out) n (lineOf w)) (sym bytes-is) (length-readFirst found n ∙ sym size)
-          ∙ ap (λ (j : ℕ). putBytes (bufferOf ws ++ drop (length ws * lineBytes) out) j (lineOf w)) (sym size)
+          ∙ ap (λ (b : List ℕ). putLine b n w) (p .lines)
+          ∙ ap₂ (λ (i j : ℕ). putLine (bufferOf ws ++ drop (j * i) out) n w) (sym bytes-is) (length-readFirst found n ∙ sym size)
+          ∙ ap (λ (j : ℕ). putLine (bufferOf ws ++ drop (length ws * lineBytes) out) j w) (sym size)
           ∙ put-next ws out w
           ∙ ap (λ (l : List Word). bufferOf l ++ drop (suc (length ws) * lineBytes) out)
           (sym (map-snoc (λ c. c .line) (readFirst found n) (aloneAt found n)) ∙ ap linesOf (sym (one-more found n))))
@@ -98,7 +89,7 @@ begun-next found out marks n after mark p h a q =
           again (marksOf (readFirst found (suc n))) (drop (suc n) marks) (set marks n mark) _
           (ap₂ (λ (l : List ℕ) (m : ℕ). set l n m)
           (p .marked ∙ ap (λ (i : ℕ). marksOf (readFirst found n) ++ drop i marks) (length-readFirst found n))
-          (q ∙ ap (λ (y : Reading). y .mark) (alone-is found n))
+          q
           ∙ mark-next (marksOf (readFirst found n)) marks n (aloneAt found n .mark)
           (length-map (readFirst found n) (λ c. c .mark) ∙ length-readFirst found n) h
           ∙ ap (λ (l : List ℕ). l ++ drop (suc n) marks)
@@ -174,7 +165,7 @@ reading-start found out marks n count e =
 
 pub reading-next : (found out₀ marks₀ : List ℕ) (n count : ℕ) (out marks : List ℕ) (i : ℕ) (after : List ℕ) (mark : ℕ)
     → ReadingOn found out₀ marks₀ n count out marks i → i < count → n + count ≤ length marks₀ → length after ≡ length out
-    → after ≡ putBytes out (n + i) (reading (bytesAt found (n + i)) .line) → mark ≡ reading (bytesAt found (n + i)) .mark
+    → after ≡ putLine out (n + i) (aloneAt found (n + i) .line) → mark ≡ aloneAt found (n + i) .mark
     → ReadingOn found out₀ marks₀ n count after (set marks (n + i) mark) (i + 1)
 reading-next found out₀ marks₀ n count out marks i after mark r h inside e a q =
     record {

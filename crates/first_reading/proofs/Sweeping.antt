@@ -7,7 +7,7 @@ use native.Mathlib.Omega.{arith}
 use lib.ListN.{length, getD, set}
 use lib.Seq.{getD-set-same, getD-set-other}
 use Rattle.gf2.specs.Word.{Word}
-use Rattle.linecode.proofs.Line.{length-lineOf}
+use Rattle.rectangle.proofs.Spare.{seventy-lineOf}
 use Rattle.scheme.specs.Layer.{readLine}
 use Rattle.scheme.specs.Visit.{State}
 use Rattle.scheme.specs.Repair.{readAll}
@@ -30,7 +30,7 @@ pub record Sweeping (rows columns : ℕ) (found out₀ marks₀ lacks₀ faulty�
 -- the bytes of a difference
 own-whole : (rows columns : ℕ) (parity : ℕ → Word) (found lacks faulty : List ℕ) (r n : ℕ) (difference : List ℕ) (hurt : ℕ)
     → RowOpen rows columns parity found lacks faulty r n difference hurt → length difference ≡ 70
-own-whole rows columns parity found lacks faulty r n difference hurt o = ap length (o .own .lack) ∙ length-lineOf _
+own-whole rows columns parity found lacks faulty r n difference hurt o = ap length (o .own .lack) ∙ seventy-lineOf _
 
 module _ (rows columns : ℕ) (found out₀ marks₀ lacks₀ faulty₀ : List ℕ) (r first : ℕ) (r-in : r < rows) where
   pub sweeping-start : (line : List ℕ) → Room rows columns out₀ marks₀ lacks₀ faulty₀

@@ -7,27 +7,21 @@ use native.Mathlib.Nat.{zero-add}
 use native.Mathlib.Omega.{arith}
 use borrow.Author.Tests.{eqb-true}
 use lib.Dec.{eqb}
-use lib.ListN.{length, getD, replicate, getD-replicate}
+use lib.ListN.{length, getD, replicate, getD-replicate, length-replicate}
 use lib.Seq.{ext-getD}
 use Rattle.gf2.specs.Word.{Word, _⊕_, zeros, isZero}
-use Rattle.linecode.specs.Places.{linePlaces, lineBytes, protectedPlaces, hammingPlaces, places, lineOf}
+use Rattle.linecode.specs.Places.{linePlaces, lineBytes, places, lineOf}
 use Rattle.linecode.specs.Code.{upFrom}
-use Rattle.linecode.proofs.Line.{bytes-is, length-lineOf}
 use Rattle.scheme.specs.Visit.{setPlaces}
 use Rattle.rectangle.specs.Store.{bytesAt, putBytes, putLine}
 use Rattle.rectangle.specs.Refusals.{every}
 use Rattle.rectangle.proofs.Buffer.{length-putLine, bytesAt-put, bytesAt-other}
-use Rattle.rectangle.proofs.Spare.{places-lineOf}
+use Rattle.rectangle.proofs.Spare.{bytes-is, seventy-lineOf, places-lineOf, zero-line}
 use Rattle.groups.specs.Lent.{allZero, added}
 
 -- ---- a line of zeros
-zero-line : _≡_ {A = List ℕ} (replicate 70 0) (lineOf (zeros 553))
-unfolding lineOf lineBytes protectedPlaces
-zero-line = refl
-
 zero-places : places (replicate 70 0) ≡ zeros linePlaces
-unfolding places lineBytes protectedPlaces hammingPlaces linePlaces
-zero-places = refl
+zero-places = ap places (sym zero-line) ∙ places-lineOf (zeros linePlaces) (length-replicate linePlaces false)
 
 zero-word : (w : Word) → isZero w ≡ true → w ≡ zeros (length w)
 zero-word [] e = refl
@@ -81,15 +75,14 @@ zero-no-places line e z = ap (λ (l : List ℕ). setPlaces 0 (places l)) (zero-b
 
 -- the bytes of a word are 0 where the word is
 pub zero-lineOf : (w : Word) → length w ≡ linePlaces → allZero (lineOf w) ≡ isZero w
-unfolding linePlaces
 zero-lineOf w e = equal (allZero (lineOf w)) (isZero w) there back
   where
     there : allZero (lineOf w) ≡ true → isZero w ≡ true
     there z =
-        ap isZero (sym (places-lineOf w e) ∙ ap places (zero-bytes (lineOf w) (length-lineOf w) z) ∙ zero-places) ∙ zeros-zero linePlaces
+        ap isZero (sym (places-lineOf w e) ∙ ap places (zero-bytes (lineOf w) (seventy-lineOf w) z) ∙ zero-places) ∙ zeros-zero linePlaces
 
     back : isZero w ≡ true → allZero (lineOf w) ≡ true
-    back z = ap allZero (ap lineOf (zero-word w z ∙ ap zeros e) ∙ sym zero-line) ∙ all-zero
+    back z = ap allZero (ap lineOf (zero-word w z ∙ ap zeros e) ∙ zero-line) ∙ all-zero
 
     equal : (a b : Bool) → (a ≡ true → b ≡ true) → (b ≡ true → a ≡ true) → a ≡ b
     equal true b f g = sym (f refl)

@@ -1,18 +1,18 @@
 -- Bytes that are not 0, and the set places that they have.
 use mathlib.Core.Path.{_≡_, refl, sym, ap, ap₂, _∙_, subst}
 use mathlib.Core.Bool.{true, false}
-use mathlib.Core.List.{List, [], _∷_, _++_, append-nil, append-assoc}
+use mathlib.Core.List.{List, [], _∷_, _++_, append-nil}
 use Prim.Native.Nat.{ℕ, zero, suc, _+_, _*_, _^_, _≤_, _<_}
 use native.Mathlib.Nat.{suc-add, zero-add}
 use native.Mathlib.Numerals.{add-one}
 use native.Mathlib.Omega.{arith}
-use lib.ListN.{length, take, getD}
+use lib.ListN.{length, take, drop, getD, take-append-drop}
 use lib.Seq.{take-suc}
 use Rattle.gf2.specs.Word.{Word, digits, number, weight}
 use Rattle.gf2.proofs.Digits.{number-small}
 use Rattle.linecode.specs.Places.{bitsOf, places}
 use Rattle.linecode.proofs.Bytes.{Bytes, byte-at, bitsOf-append}
-use Rattle.linecode.proofs.Line.{crcEnd, hammingEnd, places-line}
+use Rattle.linecode.proofs.LineLayout.{layout}
 use Rattle.scheme.specs.Visit.{setPlaces}
 use Rattle.scheme.proofs.Words.{length-setPlaces}
 
@@ -65,10 +65,9 @@ module _ (line : List ℕ) (whole : length line ≡ 70) (bytes : Bytes line) (bu
   pub busy-end : 67 ≤ i → busy ≤ length (setPlaces 0 (places line))
   busy-end h =
       let all : i ≡ 67 = omega (arith, b .far) in
-      let first = bitsOf (take 67 line) in
       let parts =
       length-setPlaces 0 (places line)
-      ∙ ap weight (places-line line whole)
-      ∙ weight-append (first ++ crcEnd line) (hammingEnd line)
-      ∙ ap (λ (n : ℕ). n + weight (hammingEnd line)) (weight-append first (crcEnd line)) in
+      ∙ ap weight (sym (take-append-drop 536 (places line)))
+      ∙ weight-append (take 536 (places line)) (drop 536 (places line))
+      ∙ ap (λ (w : Word). weight w + weight (drop 536 (places line))) (layout .front line whole) in
       omega (arith, b .held, ap (λ (k : ℕ). weight (bitsOf (take k line))) all, parts)

@@ -13,7 +13,7 @@ use lib.Seq.{drop-cons, take-suc-set}
 use Rattle.gf2.specs.Word.{Word}
 use Rattle.gf2.specs.Check.{bit}
 use Rattle.linecode.specs.Places.{places}
-use Rattle.linecode.proofs.Line.{protected-place, protected-bit}
+use Rattle.linecode.proofs.LineLayout.{layout}
 use Rattle.scheme.specs.Visit.{setPlaces}
 use Rattle.groups.specs.Lent.{Listed, allZero}
 use Rattle.groups.proofs.Added.{zero-no-places}
@@ -122,8 +122,7 @@ pub byte-past : (line : List ℕ) → length line ≡ 70 → (i : ℕ) → i < 5
 byte-past line e i h m z k a b =
     let low : k < 543 = omega arith in
     let same : k / 8 ≡ i / 8 = omega arith in
-    protected-place line e k low
-    ∙ protected-bit line e k low
+    layout .bits line e k low
     ∙ ap (bit (k % 8)) (ap (λ (x : ℕ). getD line x 0) same ∙ z)
     ∙ bit-zero (k % 8)
 

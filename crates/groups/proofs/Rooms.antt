@@ -1,23 +1,19 @@
 -- What stays as long as it was: a line that is read alone, and buffers whose bytes change.
-use mathlib.Core.Path.{_≡_, ap, _∙_}
-use mathlib.Core.Logic.{_⊎_, inl, inr}
+use mathlib.Core.Path.{_≡_, _∙_}
 use mathlib.Core.List.{List}
-use Prim.Native.Nat.{ℕ, _≤_}
+use Prim.Native.Nat.{ℕ}
 use lib.ListN.{length}
 use Rattle.gf2.specs.Word.{Word}
 use Rattle.linecode.specs.Places.{linePlaces}
-use Rattle.linecode.specs.Code.{Correct}
-use Rattle.linecode.specs.Reading.{readAlone}
-use Rattle.linecode.proofs.Promises.{promises}
+use Rattle.scheme.specs.Layer.{readLine}
+use Rattle.scheme.proofs.Width.{read-width}
+use Rattle.rectangle.specs.Store.{lineLayer}
+use Rattle.rectangle.proofs.LineLayer.{kept}
 use Rattle.groups.specs.Lent.{Room}
 
--- reading alone keeps the number of places
-pub read-long : (w : Word) → length w ≡ linePlaces → length (readAlone w .word) ≡ linePlaces
-read-long w e = go (promises .sound w e)
-  where
-    go : (readAlone w .mark ≡ 4) ⊎ ((readAlone w .mark ≤ 1) × Correct (readAlone w .word)) → length (readAlone w .word) ≡ linePlaces
-    go (inl q) = ap length (promises .kept w q) ∙ e
-    go (inr q) = promises .sized (readAlone w .word) (q .1)
+-- reading line n alone keeps the number of places
+pub read-long : (n : ℕ) (w : Word) → length w ≡ linePlaces → length (readLine lineLayer n w .line) ≡ linePlaces
+read-long n w e = read-width lineLayer kept (lineLayer .address n) w e
 
 -- buffers of the same lengths have the same room
 pub same-room : (rows columns : ℕ) (out marks lacks faulty out′ marks′ lacks′ faulty′ : List ℕ) → Room rows columns out marks lacks faulty

@@ -12,3 +12,4 @@ pub mod Codeword
 pub mod ReadAlone
 pub mod Lines
 pub mod Promises
+pub mod LineLayout

@@ -19,7 +19,7 @@ use Rattle.gf2.proofs.Same.{same-refl, same-equal}
 use Rattle.gf2.proofs.Crc.{divisible-crc}
 use Rattle.gf2.proofs.Weight.{length-flip, flip-flip, distance-flip, one-flip, OneFlip, take-flip, flip-past}
 use Rattle.linecode.specs.Places.{dataPlaces, protectedPlaces, linePlaces, bitsOf, places, lineOf}
-use Rattle.linecode.specs.Code.{protected, accepted, withHamming, codeword, Correct, positions, columns, syndrome, answerTo}
+use Rattle.linecode.specs.Code.{protected, dataOf, accepted, withHamming, codeword, Correct, isCorrect, positions, columns, syndrome, answerTo}
 use Rattle.linecode.specs.Reading.{Read, acceptedAs, faulty, afterFlip, corrected, firstLook, readAlone}
 use Rattle.linecode.specs.Entry.{written, reading}
 use Rattle.linecode.specs.Promises.{ReadsAs, Promises}
@@ -112,6 +112,21 @@ sound found e = go (read-cases found)
           subst Correct (sym (ap (λ (r : Read). r .word) (p .2))) (accepted-correct (p .0) (p .5 ∙ e) (p .4)),
         )
     go (inr q) = inl (ap (λ (r : Read). r .mark) q)
+
+marks : (found : Word) → (readAlone found .mark ≤ 1) ⊎ (readAlone found .mark ≡ 4)
+unfolding Read-cases
+marks found = go (read-cases found)
+  where
+    go : Read-cases found → (readAlone found .mark ≤ 1) ⊎ (readAlone found .mark ≡ 4)
+    go (inl p) = inl (subst (λ (n : ℕ). n ≤ 1) (sym (ap (λ (r : Read). r .mark) (p .2))) (p .3))
+    go (inr q) = inr (ap (λ (r : Read). r .mark) q)
+
+tests : (w : Word) → (isCorrect w ≡ true) ↔ Correct w
+unfolding isCorrect Correct
+tests w = (
+  λ (e : same w (codeword (dataOf w)) ≡ true). same-equal w (codeword (dataOf w)) (holds _ e),
+  λ (c : w ≡ codeword (dataOf w)). ap (same w) (sym c) ∙ same-refl w,
+)
 
 -- ---- one damaged place
 module _ (w : Word) (c : Correct w) where
@@ -213,6 +228,8 @@ promises =
       detects = detects;
       kept = kept;
       sound = sound;
+      marks = marks;
+      tests = tests;
       writes = writes;
       spare = spare;
       only = only;

@@ -12,15 +12,11 @@ use lib.Seq.{drop-cons, set-getD, length-take-le}
 use Rattle.gf2.specs.Word.{Word, flip}
 use Rattle.gf2.proofs.Weight.{length-flip}
 use Rattle.linecode.specs.Places.{linePlaces, places, lineOf}
-use Rattle.linecode.specs.Reading.{readAlone}
-use Rattle.linecode.specs.Entry.{reading}
 use Rattle.linecode.specs.declared.alone.Reading.{Reading}
-use Rattle.linecode.proofs.Line.{length-places}
-use Rattle.linecode.proofs.ReadAlone.{places-flipped}
 use Rattle.scheme.specs.Layer.{Cell, readLine}
 use Rattle.scheme.specs.Visit.{State, cellAt, isFaulty, tryPlaces, tryLines}
-use Rattle.rectangle.specs.Store.{lineLayer, readUnder, bytesAt, stride}
-use Rattle.rectangle.proofs.Spare.{places-lineOf}
+use Rattle.rectangle.specs.Store.{lineLayer, bytesAt, inBytes, stride}
+use Rattle.rectangle.proofs.Spare.{length-places, places-lineOf, places-flipped}
 use Rattle.groups.specs.Lent.{Room, Carried, Some, Numbered}
 use Rattle.groups.proofs.Walk.{Walking, walk-start, walk-in, walk-next, left-some, left-none}
 use Rattle.groups.proofs.Held.{held-count, held-mark, held-bytes}
@@ -45,30 +41,25 @@ module _ (line ps : List ℕ) (n j : ℕ) (s : Searching line ps n j) where
   searching-failed h c e = s .same c e ∙ ap (tryPlaces (readLine lineLayer) n c) (drop-of-length-le ps h)
 
   module _ (whole : length line ≡ 70) (more : j < length ps) (p : ℕ) (p-is : p ≡ getD ps j 0) (flipped : List ℕ)
-      (turned : flipped ≡ lineOf (flip p (places line))) (tried : Reading) (read : tried ≡ reading flipped) where
-    trial-is : (c : Cell) → c .line ≡ places line → readLine lineLayer n (flip (getD ps j 0) (c .line))
-        ≡ record { line = readAlone (places flipped) .word; mark = readAlone (places flipped) .mark }
-    unfolding readUnder
-    trial-is c e =
-        ap (λ (w : Word). record { line = readAlone w .word; mark = readAlone w .mark })
-        (ap₂ flip (sym p-is) e ∙ sym (places-flipped line flipped p whole turned))
+      (turned : flipped ≡ lineOf (flip p (places line))) (tried : Reading)
+      (read : tried ≡ inBytes (readLine lineLayer n (places flipped))) where
+    trial-is : (c : Cell) → c .line ≡ places line → readLine lineLayer n (flip (getD ps j 0) (c .line)) ≡ readLine lineLayer n (places flipped)
+    trial-is c e = ap (readLine lineLayer n) (ap₂ flip (sym p-is) e ∙ sym (places-flipped line flipped p whole turned))
 
-    tried-mark : tried .mark ≡ readAlone (places flipped) .mark
-    unfolding reading
+    tried-mark : tried .mark ≡ readLine lineLayer n (places flipped) .mark
     tried-mark = ap (λ (r : Reading). r .mark) read
 
-    pub tried-line : tried .line ≡ lineOf (readAlone (places flipped) .word)
-    unfolding reading
+    pub tried-line : tried .line ≡ lineOf (readLine lineLayer n (places flipped) .line)
     tried-line = ap (λ (r : Reading). r .line) read
 
-    pub tried-long : length (readAlone (places flipped) .word) ≡ linePlaces
+    pub tried-long : length (readLine lineLayer n (places flipped) .line) ≡ linePlaces
     tried-long =
-        read-long (places flipped)
+        read-long n (places flipped)
         (ap length (places-flipped line flipped p whole turned) ∙ length-flip p (places line) ∙ length-places line whole)
 
     rest : (c : Cell) → c .line ≡ places line → tryPlaces (readLine lineLayer) n c ps
-        ≡ cond (eqb (readAlone (places flipped) .mark) 4) (tryPlaces (readLine lineLayer) n c (drop (suc j) ps))
-        (record { line = readAlone (places flipped) .word; mark = 2 })
+        ≡ cond (eqb (readLine lineLayer n (places flipped) .mark) 4) (tryPlaces (readLine lineLayer) n c (drop (suc j) ps))
+        (record { line = readLine lineLayer n (places flipped) .line; mark = 2 })
     rest c e =
         s .same c e
         ∙ ap (tryPlaces (readLine lineLayer) n c) (drop-cons ps j 0 more)
@@ -82,18 +73,18 @@ module _ (line ps : List ℕ) (n j : ℕ) (s : Searching line ps n j) where
           same = λ c e.
               rest c e
               ∙ ap
-              (λ (b : Bool). cond b (tryPlaces (readLine lineLayer) n c (drop (suc j) ps)) (record { line = readAlone (places flipped) .word; mark = 2 }))
-              (eq-eqb (readAlone (places flipped) .mark) 4 (sym tried-mark ∙ q))
+              (λ (b : Bool). cond b (tryPlaces (readLine lineLayer) n c (drop (suc j) ps)) (record { line = readLine lineLayer n (places flipped) .line; mark = 2 }))
+              (eq-eqb (readLine lineLayer n (places flipped) .mark) 4 (sym tried-mark ∙ q))
               ∙ ap (λ (k : ℕ). tryPlaces (readLine lineLayer) n c (drop k ps)) (sym (add-one j));
         }
 
     pub searching-found : (tried .mark ≡ 4 → ⊥) → (c : Cell) → c .line ≡ places line
-        → tryPlaces (readLine lineLayer) n c ps ≡ record { line = readAlone (places flipped) .word; mark = 2 }
+        → tryPlaces (readLine lineLayer) n c ps ≡ record { line = readLine lineLayer n (places flipped) .line; mark = 2 }
     searching-found q c e =
         rest c e
         ∙ ap
-        (λ (b : Bool). cond b (tryPlaces (readLine lineLayer) n c (drop (suc j) ps)) (record { line = readAlone (places flipped) .word; mark = 2 }))
-        (ne-eqb (readAlone (places flipped) .mark) 4 (λ (z : readAlone (places flipped) .mark ≡ 4). q (tried-mark ∙ z)))
+        (λ (b : Bool). cond b (tryPlaces (readLine lineLayer) n c (drop (suc j) ps)) (record { line = readLine lineLayer n (places flipped) .line; mark = 2 }))
+        (ne-eqb (readLine lineLayer n (places flipped) .mark) 4 (λ (z : readLine lineLayer n (places flipped) .mark ≡ 4). q (tried-mark ∙ z)))
 
 -- four buffers under other names
 pub four : (P : List ℕ → List ℕ → List ℕ → List ℕ → Type 0) (a b c d a′ b′ c′ d′ : List ℕ) → a ≡ a′ → b ≡ b′ → c ≡ c′ → d ≡ d′ → P a′ b′ c′ d′ → P a b c d

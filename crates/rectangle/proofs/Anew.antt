@@ -26,7 +26,7 @@ use Rattle.rectangle.proofs.Groups.{in-row, row-number, row-inside, row
 use Rattle.rectangle.proofs.Tests.{tables-lengths, lengths-tables}
 use Rattle.rectangle.proofs.Runs.{change-runs}
 use Rattle.rectangle.proofs.Parity.{correct-reads, correct-accepted, accepted-correct}
-use Rattle.rectangle.proofs.Writing.{write-correct}
+use Rattle.rectangle.proofs.LineLayer.{write-correct}
 use Rattle.rectangle.proofs.Agreement.{some-columns, line-bytes, row-accepted, column-accepted, anew-answers, anew-rows, anew-columns}
 
 -- ---- the exclusive or of a group in which line n alone changes

@@ -12,12 +12,11 @@ use lib.Seq.{take-at, drop-at, take-append-add, drop-append-add, getD-append-add
 use Rattle.gf2.specs.Word.{Word}
 use Rattle.linecode.specs.Places.{linePlaces, lineBytes, places, lineOf}
 use Rattle.linecode.specs.Code.{upFrom}
-use Rattle.linecode.proofs.Line.{bytes-is, length-places}
 use Rattle.scheme.specs.Demand3.{wordAt}
 use Rattle.rectangle.specs.Store.{bytesAt, placesAt, linesIn, bufferOf, putBytes, putLine}
 use Rattle.rectangle.specs.Refusals.{holds}
 use Rattle.rectangle.proofs.Members.{length-upFrom, map-upFrom}
-use Rattle.rectangle.proofs.Spare.{length-lineOf, places-lineOf}
+use Rattle.rectangle.proofs.Spare.{bytes-is, length-places, length-lineOf, places-lineOf}
 
 -- the bytes up to line n lie inside k lines
 pub lines-le : (n k : ℕ) → n ≤ k → n * lineBytes ≤ k * lineBytes

@@ -5,19 +5,17 @@ use Prim.Native.Nat.{ℕ, suc, _+_, _-_, _*_, _≤_, _<_}
 use native.Mathlib.Nat.{suc-mul, zero-add}
 use native.Mathlib.Numerals.{add-one}
 use native.Mathlib.Omega.{arith}
-use lib.ListN.{length, take, drop, getD, set, replicate, length-drop, drop-of-length-le}
-use lib.Seq.{paste, paste-zero, paste-suc, length-paste, take-append-le, take-all, length-take-le}
+use lib.ListN.{length, take, drop, getD, set, length-drop, drop-of-length-le}
+use lib.Seq.{paste, paste-zero, paste-suc, length-paste, take-all, length-take-le}
 use Rattle.linecode.specs.Places.{lineBytes, loaded}
+use Rattle.linecode.proofs.LineLayout.{layout}
 use Rattle.rectangle.specs.Store.{bytesAt, putBytes}
 
 -- what is loaded from line n of a buffer
 pub loaded-line : (buffer : List ℕ) (n : ℕ) → suc n * 70 ≤ length buffer
     → loaded (take (n * 70 + 70 - n * 70) (drop (n * 70) buffer)) ≡ bytesAt buffer n
-unfolding loaded bytesAt lineBytes
-loaded-line buffer n h =
-    ap (λ (k : ℕ). take 70 (take k line ++ replicate 70 0)) (size (n * 70))
-    ∙ take-append-le 70 (take 70 line) (replicate 70 0) (omega (arith, whole))
-    ∙ take-all 70 (take 70 line) (omega (arith, whole))
+unfolding bytesAt lineBytes
+loaded-line buffer n h = ap (λ (k : ℕ). loaded (take k line)) (size (n * 70)) ∙ layout .whole (take 70 line) whole
   where
     line : List ℕ
     line = drop (n * 70) buffer

@@ -14,7 +14,6 @@ use Rattle.gf2.proofs.Xor.{bit-self}
 use Rattle.gf2.proofs.Weight.{distance-self, length-flip}
 use Rattle.linecode.specs.Places.{lineBytes, dataBytes}
 use Rattle.linecode.specs.Code.{upFrom}
-use Rattle.linecode.proofs.Line.{places-is}
 use Rattle.scheme.specs.Layer.{CorrectLine, Promises}
 use Rattle.scheme.specs.Demand3.{_∈_, wordAt}
 use Rattle.rectangle.specs.Store.{lineLayer, placesAt, linesIn, bufferOf}
@@ -22,12 +21,13 @@ use Rattle.rectangle.specs.Refusals.{sideFits, sidesFit, holds}
 use Rattle.rectangle.specs.Change.{newLine}
 use Rattle.rectangle.specs.Demands.{Rectangle, count, repairOf, Written, Distinct, damage, damagedAt, Alone, Paired, DamagedSo, HypothesisMet}
 use Rattle.rectangle.proofs.Members.{in-upFrom, upFrom-bounds}
+use Rattle.rectangle.proofs.Spare.{places-is}
 use Rattle.rectangle.proofs.Buffer.{Sized, placesAt-bufferOf, length-bufferOf, length-holds, linesIn-equal}
 use Rattle.rectangle.proofs.Tests.{lengths-tables}
 use Rattle.rectangle.proofs.Written.{rectangleOf, correct-written}
 use Rattle.rectangle.proofs.Agreement.{rowTable-bytes, columnTable-bytes}
 use Rattle.rectangle.proofs.Order.{received}
-use Rattle.rectangle.proofs.Writing.{write-correct}
+use Rattle.rectangle.proofs.LineLayer.{write-correct}
 use Rattle.rectangle.proofs.Kept.{kept, exactReturn}
 
 -- ---- two places turned over are two damaged bits

@@ -2,6 +2,7 @@
 pub mod Members
 pub mod Stride
 pub mod Spare
+pub mod LineLayer
 pub mod Buffer
 pub mod Copying
 pub mod Adding
@@ -20,7 +21,6 @@ pub mod Pieces
 pub mod SweepingRow
 pub mod Sweeping
 -- The demands: read Kept last.
-pub mod Writing
 pub mod Parity
 pub mod ParityLines
 pub mod Written

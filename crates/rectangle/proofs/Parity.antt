@@ -1,5 +1,5 @@
 -- "Of correct lines a parity line is itself a correct line": tables made from lines that read alone as accepted.
-use mathlib.Core.Path.{_≡_, sym, ap, _∙_}
+use mathlib.Core.Path.{_≡_, ap}
 use mathlib.Core.Logic.{_⊎_, inl, inr}
 use mathlib.Core.Bool.{true, not}
 use mathlib.Core.List.{List}
@@ -8,32 +8,20 @@ use native.Mathlib.Nat.{not-suc-le-zero}
 use native.Mathlib.Omega.{arith}
 use borrow.Author.Tests.{eqb-false, ne-eqb, not-true}
 use lib.ListN.{length}
-use Rattle.gf2.specs.Word.{Word, same}
+use Rattle.gf2.specs.Word.{Word}
 use Rattle.gf2.proofs.Weight.{distance-self}
-use Rattle.gf2.proofs.Same.{same-refl}
 use Rattle.linecode.specs.Places.{lineBytes}
-use Rattle.linecode.specs.Code.{Correct, isCorrect}
 use Rattle.scheme.specs.Layer.{readLine, CorrectLine, parityAddress, ReadsAs, Promises}
-use Rattle.scheme.specs.Visit.{Group, sum}
+use Rattle.scheme.specs.Visit.{sum}
 use Rattle.scheme.specs.Demand3.{_∈_}
 use Rattle.scheme.proofs.Written.{parity-correct}
-use Rattle.rectangle.specs.Store.{lineLayer, correctUnder, placesAt, aloneAt, stride, row, column, rowGroup, columnGroup, groups}
+use Rattle.rectangle.specs.Store.{lineLayer, placesAt, aloneAt, stride, row, column, rowGroup, columnGroup, groups}
 use Rattle.rectangle.specs.Refusals.{every, parityCorrect, acceptedAt}
 use Rattle.rectangle.specs.Tables.{rowParity, columnParity, rowTableOf, columnTableOf}
+use Rattle.rectangle.proofs.LineLayer.{parity-passes}
 use Rattle.rectangle.proofs.Buffer.{length-placesAt, table-at}
 use Rattle.rectangle.proofs.Groups.{row-inside, column-inside, by-groups}
 use Rattle.rectangle.proofs.Tests.{every-true}
-
--- the test of a correct line
-pub correct-passes : (a : ℕ) (w : Word) → lineLayer .Correct a w → correctUnder a w ≡ true
-unfolding correctUnder isCorrect Correct
-correct-passes a w e = ap (same w) (sym e) ∙ same-refl w
-
--- a parity line that has the places of a correct line passes
-pub parity-passes : (g : Group) (w : Word) → g .parity ≡ w → lineLayer .Correct (parityAddress lineLayer (g .members)) w
-    → parityCorrect g ≡ true
-unfolding parityCorrect
-parity-passes g w e c = ap (correctUnder (parityAddress lineLayer (g .members))) e ∙ correct-passes _ w c
 
 module _ (promises : Promises lineLayer) where
   -- a correct line reads alone as itself

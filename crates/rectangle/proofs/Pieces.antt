@@ -9,16 +9,14 @@ use native.Mathlib.Omega.{arith}
 use borrow.Author.Count.{below-more}
 use lib.ListN.{length, getD}
 use Rattle.linecode.specs.Places.{lineBytes, places, lineOf, xorBytes}
-use Rattle.linecode.specs.Entry.{reading}
-use Rattle.linecode.specs.declared.alone.Reading.{Reading}
 use Rattle.linecode.proofs.Bytes.{length-xorBytes}
-use Rattle.linecode.proofs.Line.{bytes-is}
 use Rattle.sweep.specs.Sums.{lineAt, bothSums}
 use Rattle.rectangle.specs.Store.{bytesAt, putBytes, putLine, aloneAt}
 use Rattle.rectangle.specs.Refusals.{acceptedAt}
 use Rattle.rectangle.specs.Sweep.{PieceSums, PieceRead, withLines, LinesAdded, PieceSummed}
+use Rattle.rectangle.proofs.Spare.{bytes-is}
 use Rattle.rectangle.proofs.Buffer.{bytesAt-put, bytesAt-other, length-putBytes, bytesAt-putBytes, bytesAt-still}
-use Rattle.rectangle.proofs.Alone.{seventy, line-alone, faulty-alone, accepted-alone}
+use Rattle.rectangle.proofs.Alone.{seventy, faulty-alone, accepted-alone}
 use Rattle.rectangle.proofs.Tests.{every-from, fails-from}
 
 -- line i lies inside so many lines
@@ -57,17 +55,17 @@ piece-ends lines n each i count t h =
 
 -- a line that reads as it stands
 pub piece-stands : (lines : List ℕ) (n i : ℕ) → PieceTurn lines n (λ k. bytesAt lines (n + k)) i
-    → reading (bytesAt lines (n + i)) ≡ record { line = bytesAt lines (n + i); mark = 0 }
+    → (line : List ℕ) → line ≡ bytesAt lines (n + i) → line ≡ lineOf (aloneAt lines (n + i) .line) → 0 ≡ aloneAt lines (n + i) .mark
     → PieceTurn lines n (λ k. bytesAt lines (n + k)) (i + 1)
-piece-stands lines n i t e =
+piece-stands lines n i t line e f m =
     record {
-      accepted = below-more _ _ (t .accepted) (accepted-alone lines (n + i) _ refl (λ f. let z = ap (λ (r : Reading). r .mark) (sym e) ∙ f in omega arith));
-      read = below-more _ _ (t .read) (ap (λ (r : Reading). r .line) (sym e) ∙ line-alone lines (n + i) _ refl);
+      accepted = below-more _ _ (t .accepted) (accepted-alone lines (n + i) 0 m (λ z. omega arith));
+      read = below-more _ _ (t .read) (sym e ∙ f);
     }
 
 module _ (lines : List ℕ) (n count : ℕ) (few : count ≤ 8) (piece : List ℕ) (room : length piece ≡ 8 * 70) (i : ℕ)
     (t : PieceTurn lines n (bytesAt piece) i) (h : i < count) (piece′ : List ℕ)
-    (e : piece′ ≡ putBytes piece i (reading (bytesAt lines (n + i)) .line)) (mark : ℕ) (m : mark ≡ reading (bytesAt lines (n + i)) .mark) where
+    (put : piece′ ≡ putLine piece i (aloneAt lines (n + i) .line)) (mark : ℕ) (m : mark ≡ aloneAt lines (n + i) .mark) where
   whole : length piece ≡ 8 * lineBytes
   unfolding lineBytes
   whole = room
@@ -75,22 +73,18 @@ module _ (lines : List ℕ) (n count : ℕ) (few : count ≤ 8) (piece : List �
   below : i < 8
   below = omega arith
 
-  put : piece′ ≡ putLine piece i (aloneAt lines (n + i) .line)
-  unfolding putLine
-  put = e ∙ ap (putBytes piece i) (line-alone lines (n + i) _ refl)
-
   -- a faulty line ends the piece
   pub piece-faulty : mark ≡ 4 → PieceRead lines n count (bytesAt piece′) false
   piece-faulty f =
       record {
-        answer = sym (fails-from (acceptedAt lines) n count i h (faulty-alone lines (n + i) _ refl (sym m ∙ f)));
+        answer = sym (fails-from (acceptedAt lines) n count i h (faulty-alone lines (n + i) mark m f));
         read = λ z. absurd (true≢false (sym z));
       }
 
   pub piece-more : (mark ≡ 4 → ⊥) → PieceTurn lines n (bytesAt piece′) (i + 1)
   piece-more d =
       record {
-        accepted = below-more _ _ (t .accepted) (accepted-alone lines (n + i) _ refl (λ f. d (m ∙ f)));
+        accepted = below-more _ _ (t .accepted) (accepted-alone lines (n + i) mark m d);
         read = below-more _ _
             (λ k j.
             ap (λ (p : List ℕ). bytesAt p k) put

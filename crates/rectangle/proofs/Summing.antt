@@ -1,20 +1,20 @@
 -- Lines summed one after the other, from a line of zeros on.
 use mathlib.Core.Path.{_≡_, refl, sym, ap, ap₂, _∙_}
 use mathlib.Core.Logic.{_⊎_, inl, inr}
+use mathlib.Core.Bool.{false}
 use mathlib.Core.List.{List, []}
 use Prim.Native.Nat.{ℕ, zero, suc, _+_, _*_, _≤_, _<_}
 use native.Mathlib.Numerals.{add-one}
 use native.Mathlib.Omega.{arith}
-use lib.ListN.{length, replicate}
+use lib.ListN.{length, replicate, length-replicate}
 use Rattle.gf2.specs.Word.{Word, _⊕_, zeros}
 use Rattle.gf2.proofs.Xor.{xor-comm, xor-zeros, length-xor-same}
-use Rattle.linecode.specs.Places.{protectedPlaces, hammingPlaces, linePlaces, lineBytes, places, lineOf, xorBytes}
-use Rattle.linecode.proofs.Line.{length-places, lineOf-xor}
+use Rattle.linecode.specs.Places.{linePlaces, places, lineOf, xorBytes}
 use Rattle.scheme.specs.Visit.{sum}
 use Rattle.rectangle.specs.Store.{aloneAt, stride}
 use Rattle.rectangle.specs.Sweep.{Clean}
 use Rattle.rectangle.proofs.Stride.{sum-snoc}
-use Rattle.rectangle.proofs.Spare.{places-lineOf}
+use Rattle.rectangle.proofs.Spare.{length-places, places-lineOf, lineOf-xor, none-zeros, none-line}
 use Rattle.rectangle.proofs.Alone.{length-alone}
 
 -- no line so far, or all places
@@ -23,16 +23,10 @@ Whole w = (w ≡ []) ⊎ (length w ≡ linePlaces)
 
 -- a line of zeros
 pub none-summed : replicate 70 0 ≡ lineOf []
-unfolding lineOf lineBytes protectedPlaces
-none-summed = refl
+none-summed = sym none-line
 
 none-places : places (lineOf []) ≡ zeros linePlaces
-unfolding places lineOf lineBytes protectedPlaces hammingPlaces linePlaces
-none-places = refl
-
-none-zeros : lineOf [] ≡ lineOf (zeros linePlaces)
-unfolding lineOf lineBytes protectedPlaces linePlaces
-none-zeros = refl
+none-places = ap places none-zeros ∙ places-lineOf (zeros linePlaces) (length-replicate linePlaces false)
 
 -- one line more, in bytes
 one-more : (w v : Word) → Whole w → length v ≡ linePlaces → lineOf (places (lineOf w) ⊕ v) ≡ lineOf (w ⊕ v)

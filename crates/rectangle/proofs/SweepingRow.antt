@@ -10,11 +10,11 @@ use lib.ListN.{length, replicate}
 use Rattle.gf2.specs.Word.{_⊕_}
 use Rattle.linecode.specs.Places.{lineOf, xorBytes}
 use Rattle.linecode.specs.Code.{upFrom}
-use Rattle.linecode.proofs.Line.{length-lineOf}
 use Rattle.rectangle.specs.Store.{bytesAt, placesAt, aloneAt}
 use Rattle.rectangle.specs.Refusals.{acceptedAt}
 use Rattle.rectangle.specs.Sweep.{withLines, LinesAdded, PieceSummed, RowUnswept, RowSwept}
 use Rattle.rectangle.proofs.Members.{upFrom-bounds}
+use Rattle.rectangle.proofs.Spare.{seventy-lineOf}
 use Rattle.rectangle.proofs.Alone.{seventy, length-alone}
 use Rattle.rectangle.proofs.Tests.{some-fails, every-from, from-every, fails-from}
 use Rattle.rectangle.proofs.Summing.{summed, none-summed, clean-more, clean-summed, sum-turn}
@@ -89,7 +89,7 @@ module _ (lines : List ℕ) (first columns : ℕ) (piece₀ old : List ℕ) (u :
         sum-next i j sum q =
             sum-turn lines first 1 (c + i) (first + (c + i)) sum (xorBytes sum (lineOf (aloneAt lines (first + c + i) .line))) (omega arith) within q
             (ap (xorBytes sum) (read i)
-            ∙ clean-more sum (aloneAt lines (first + (c + i)) .line) (ap length q ∙ length-lineOf _)
+            ∙ clean-more sum (aloneAt lines (first + (c + i)) .line) (ap length q ∙ seventy-lineOf _)
             (clean-summed lines first 1 (c + i) sum (λ k b. within k (omega arith)) q)
             (length-alone lines (first + (c + i)) (line-in (c + i) (omega arith))))
           where

@@ -8,7 +8,7 @@ use Rattle.linecode.specs.Places.{dataBytes, lineBytes}
 use Rattle.linecode.specs.Code.{upFrom}
 use Rattle.scheme.specs.Layer.{parityAddress}
 use Rattle.scheme.specs.Visit.{Group, isFaulty}
-use Rattle.rectangle.specs.Store.{lineLayer, correctUnder, aloneAt, rowGroup, columnGroup, groups}
+use Rattle.rectangle.specs.Store.{lineLayer, isCorrectUnder, aloneAt, rowGroup, columnGroup, groups}
 
 -- a test that fails gives its refusal, and otherwise the next test is made
 abbrev pub unless : Bool → ℕ → ℕ → ℕ
@@ -36,7 +36,7 @@ tablesFit rows columns rowTable columnTable = holds rows rowTable && holds colum
 
 -- 9: a parity line, spare bits apart, is a correct line
 unfoldable pub parityCorrect : Group → Bool
-parityCorrect g = correctUnder (parityAddress lineLayer (g .members)) (g .parity)
+parityCorrect g = isCorrectUnder (parityAddress lineLayer (g .members)) (g .parity)
 
 -- 10: a line is not faulty where it is read alone
 unfoldable pub acceptedAt : List ℕ → ℕ → Bool

@@ -7,23 +7,28 @@ use Rattle.gf2.specs.Word.{Word}
 use Rattle.linecode.specs.Places.{linePlaces, lineBytes, bitsOf, places, lineOf}
 use Rattle.linecode.specs.Code.{upFrom, codeword, Correct, isCorrect}
 use Rattle.linecode.specs.Reading.{readAlone}
+use Rattle.linecode.specs.declared.alone.Reading as Given
 use Rattle.scheme.specs.Layer.{Reading, Layer, Cell, readLine}
 use Rattle.scheme.specs.Visit.{Group}
 
--- reading a line alone, writing it from its data, and the test that it is correct, each under the line's address, which this
--- line code does not use
+-- reading a line alone, writing it from its data, and when it is correct, each under the line's address, which this line code
+-- does not use
 unfoldable pub readUnder : Reading
 readUnder address found = record { line = readAlone found .word; mark = readAlone found .mark }
 
 unfoldable pub writeUnder : ℕ → List ℕ → Word
 writeUnder address payload = codeword (bitsOf payload)
 
-unfoldable pub correctUnder : ℕ → Word → Bool
-correctUnder address w = isCorrect w
+unfoldable pub CorrectUnder : ℕ → Word → Type 0
+CorrectUnder address w = Correct w
+
+-- the same as a test
+unfoldable pub isCorrectUnder : ℕ → Word → Bool
+isCorrectUnder address w = isCorrect w
 
 -- the line code as repair sees it; a line's address is its number
 abbrev pub lineLayer : Layer
-lineLayer = record { width = linePlaces; address = λ n. n; read = readUnder; Correct = λ address w. Correct w }
+lineLayer = record { width = linePlaces; address = λ n. n; read = readUnder; Correct = CorrectUnder }
 
 -- line n of a buffer: its 70 bytes, and its places
 unfoldable pub bytesAt : List ℕ → ℕ → List ℕ
@@ -52,6 +57,10 @@ putLine buffer n w = putBytes buffer n (lineOf w)
 -- line n as it reads alone
 unfoldable pub aloneAt : List ℕ → ℕ → Cell
 aloneAt buffer n = readLine lineLayer n (placesAt buffer n)
+
+-- the same as a function gives it: 70 bytes with spare bits 0, and the mark
+abbrev pub inBytes : Cell → Given.Reading
+inBytes c = record { line = lineOf (c .line); mark = c .mark }
 
 -- so many line numbers, from the first on at equal steps
 abbrev pub stride : ℕ → ℕ → ℕ → List ℕ

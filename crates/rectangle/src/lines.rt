@@ -6,10 +6,9 @@ ghost use mathlib.Core.Path.{_≡_};
 ghost use Prim.Native.Nat.{suc, _*_, _≤_};
 ghost use lib.ListN.{length};
 ghost use Rattle.linecode.specs.Places.{places, xorBytes};
-ghost use Rattle.linecode.specs.Entry.{reading};
 ghost use Rattle.line_table.specs.Table.{lineTable};
 ghost use Rattle.sweep.specs.Sums.{bothSums};
-ghost use Rattle.rectangle.specs.Store.{bytesAt, putBytes};
+ghost use Rattle.rectangle.specs.Store.{bytesAt, putBytes, putLine, aloneAt};
 ghost use Rattle.rectangle.specs.Change.{addTo};
 
 // The number of a row, and of a column: they are counted apart, so that neither table is reached with the other's number.
@@ -70,8 +69,8 @@ pub fn read_into(
     requires table { ⌜ now table ≡ lineTable ⌝ }
     requires inside { ⌜ (suc n * 70 ≤ length (now found)) × (suc m * 70 ≤ length (now out)) ⌝ }
     requires summed { ⌜ sums ≡ bothSums (places (bytesAt (now found) n)) ⌝ }
-    ensures { λ r. ⌜ (now (out .exit) ≡ putBytes (now (out .entry)) m (reading (bytesAt (now (found .entry)) n) .line))
-        × (r ≡ reading (bytesAt (now (found .entry)) n) .mark) ⌝ }
+    ensures { λ r. ⌜ (now (out .exit) ≡ putLine (now (out .entry)) m (aloneAt (now (found .entry)) n .line))
+        × (r ≡ aloneAt (now (found .entry)) n .mark) ⌝ }
 {
     let line = line_at(found, n);
     if reading::is_untouched(line, sums) {

@@ -6,13 +6,13 @@ use native.Mathlib.Omega.{arith}
 use lib.ListN.{length, getD, replicate, length-replicate, getD-replicate}
 use Rattle.gf2.specs.Word.{Word, _⊕_}
 use Rattle.linecode.specs.Places.{linePlaces, lineOf}
-use Rattle.linecode.proofs.Line.{bytes-is}
 use Rattle.scheme.specs.Layer.{readLine}
 use Rattle.scheme.specs.Visit.{Group, State, lineAt, faultyOf, sum}
 use Rattle.scheme.specs.Repair.{Repaired, readAll, passesFrom, repair, linesOf, marksOf, answer}
 use Rattle.rectangle.specs.Store.{lineLayer, placesAt, bytesAt, linesIn, bufferOf}
 use Rattle.rectangle.specs.Refusals.{repairRefusal}
 use Rattle.rectangle.specs.Repair.{repaired, handedOver, StoreRepaired, repairStore}
+use Rattle.rectangle.proofs.Spare.{bytes-is}
 use Rattle.rectangle.proofs.Buffer.{length-placesAt}
 use Rattle.rectangle.proofs.Runs.{repair-runs, repair-refused}
 use Rattle.groups.specs.Lent.{Beside, Tracked, Carried, Rectangular, Room, membersOf, groupOf}

@@ -9,8 +9,8 @@ use borrow.Author.Tests.{eqb-true, eq-eqb, ne-eqb}
 use lib.Dec.{eqb}
 use lib.ListN.{length}
 use Rattle.linecode.specs.Places.{lineBytes}
-use Rattle.linecode.specs.Code.{upFrom, isCorrect}
-use Rattle.rectangle.specs.Store.{correctUnder, placesAt, rowGroup, columnGroup, groups}
+use Rattle.linecode.specs.Code.{upFrom}
+use Rattle.rectangle.specs.Store.{rowGroup, columnGroup, groups}
 use Rattle.rectangle.specs.Refusals.{unless, every, sidesFit, holds, parityCorrect, repairRefusal}
 use Rattle.rectangle.proofs.Groups.{sides}
 use Rattle.rectangle.proofs.Refusing.{sizeTests, sizes-refused, sizes-then, sizes-next, SizesPass}
@@ -32,8 +32,9 @@ every-map test f (a ∷ l) = ap (λ (b : Bool). test (f a) && b) (every-map test
 
 -- refusal 9: each parity line of both tables
 parities : (rows columns : ℕ) (rt ct : List ℕ) → every parityCorrect (groups rows columns rt ct)
-    ≡ every (λ k. isCorrect (placesAt rt k)) (upFrom 0 rows) && every (λ k. isCorrect (placesAt ct k)) (upFrom 0 columns)
-unfolding groups parityCorrect correctUnder
+    ≡ every (λ k. parityCorrect (rowGroup columns rt k)) (upFrom 0 rows)
+    && every (λ k. parityCorrect (columnGroup rows columns ct k)) (upFrom 0 columns)
+unfolding groups
 parities rows columns rt ct =
     every-append parityCorrect (map (rowGroup columns rt) (upFrom 0 rows)) (map (columnGroup rows columns ct) (upFrom 0 columns))
     ∙ ap₂ _&&_ (every-map parityCorrect (rowGroup columns rt) (upFrom 0 rows))
@@ -80,7 +81,8 @@ module _ (rows columns : ℕ) (lines rt ct out marks : List ℕ) where
 
       -- the parity lines decide
       pub parity-decides : length marks ≡ rows * columns → (a b : Bool)
-          → every (λ k. isCorrect (placesAt rt k)) (upFrom 0 rows) ≡ a → every (λ k. isCorrect (placesAt ct k)) (upFrom 0 columns) ≡ b
+          → every (λ k. parityCorrect (rowGroup columns rt k)) (upFrom 0 rows) ≡ a
+          → every (λ k. parityCorrect (columnGroup rows columns ct k)) (upFrom 0 columns) ≡ b
           → unless (a && b) 9 0 ≡ repairRefusal rows columns lines rt ct out marks
       parity-decides m a b e f =
           sym (marks-next

@@ -4,9 +4,9 @@ ghost use mathlib.Core.Path.{_≡_};
 ghost use Prim.Native.Nat.{ℕ, _+_, _*_, _≤_, _<_};
 ghost use lib.ListN.{length};
 ghost use Rattle.linecode.specs.Places.{lineOf};
-ghost use Rattle.linecode.specs.Code.{upFrom, isCorrect};
-ghost use Rattle.rectangle.specs.Store.{placesAt, bytesAt};
-ghost use Rattle.rectangle.specs.Refusals.{every};
+ghost use Rattle.linecode.specs.Code.{upFrom};
+ghost use Rattle.rectangle.specs.Store.{placesAt, bytesAt, rowGroup, columnGroup};
+ghost use Rattle.rectangle.specs.Refusals.{every, parityCorrect};
 ghost use Rattle.line_table.specs.Table.{lineTable};
 use linecode::place;
 use rectangle::lines;
@@ -14,11 +14,11 @@ use rectangle::lines::ColumnIndex;
 use rectangle::lines::RowIndex;
 use sweep::reading;
 
-// Whether each row's parity line is a correct line.
+// Whether each row's parity line is a correct line, whatever the number of columns.
 pub fn rows_correct(table: &[u64; 4096], rows: usize, row_table: &[u8]) -> bool
     requires table { ⌜ now table ≡ lineTable ⌝ }
     requires whole { ⌜ length (now «row_table») ≡ rows * 70 ⌝ }
-    ensures { λ r. ⌜ r ≡ every (λ k. isCorrect (placesAt (now («row_table» .entry)) k)) (upFrom 0 rows) ⌝ }
+    ensures { λ r. ⌜ ((columns : ℕ) → r ≡ every (λ k. parityCorrect (rowGroup columns (now («row_table» .entry)) k)) (upFrom 0 rows)) ⌝ }
 {
     let mut r = 0;
     while r < rows {
@@ -30,11 +30,12 @@ pub fn rows_correct(table: &[u64; 4096], rows: usize, row_table: &[u8]) -> bool
     true
 }
 
-// Whether each column's parity line is a correct line.
+// Whether each column's parity line is a correct line, whatever the number of rows.
 pub fn columns_correct(table: &[u64; 4096], columns: usize, column_table: &[u8]) -> bool
     requires table { ⌜ now table ≡ lineTable ⌝ }
     requires whole { ⌜ length (now «column_table») ≡ columns * 70 ⌝ }
-    ensures { λ r. ⌜ r ≡ every (λ k. isCorrect (placesAt (now («column_table» .entry)) k)) (upFrom 0 columns) ⌝ }
+    ensures { λ r. ⌜ ((rows : ℕ)
+        → r ≡ every (λ k. parityCorrect (columnGroup rows columns (now («column_table» .entry)) k)) (upFrom 0 columns)) ⌝ }
 {
     let mut c = 0;
     while c < columns {

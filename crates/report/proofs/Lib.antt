@@ -3,7 +3,6 @@ pub mod Counting
 pub mod Decimal
 pub mod Writing
 pub mod Checking
-pub mod Marked
 pub mod Adding
 pub mod Digits
 pub mod Unread

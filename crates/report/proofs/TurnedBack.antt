@@ -7,11 +7,14 @@ use Prim.Native.Nat.{ℕ, _*_, _≤_, _<_}
 use lib.Dec.{leb}
 use lib.ListN.{length, getD}
 use Rattle.scheme.specs.Layer.{readLine}
-use Rattle.scheme.specs.Repair.{repair}
+use Rattle.scheme.specs.Repair.{repair, marksOf}
+use Rattle.scheme.specs.Marks.{MarksOf}
+use Rattle.scheme.proofs.Marking.{repair-marks}
 use Rattle.rectangle.specs.Store.{lineLayer, linesIn, groups}
 use Rattle.rectangle.specs.Refusals.{unless, sidesFit, repairRefusal}
 use Rattle.rectangle.specs.Repair.{StoreRepaired, repaired, handsOver, handedOver, repairStore}
 use Rattle.rectangle.proofs.Buffer.{length-linesIn}
+use Rattle.rectangle.proofs.Kept.{kept}
 use Rattle.rectangle.proofs.Runs.{zero-or-not, answer-hands-over, refusal-hands-nothing, repair-runs, repair-refused}
 use Rattle.storefile.specs.Header.{headerBytes}
 use Rattle.storefile.specs.Opening.{rowsIn, columnsIn, sidesWithin, contentsFit, openRefusal, opened}
@@ -20,7 +23,6 @@ use Rattle.report.specs.Check.{StoreChecked, refusedWith, repairOpened, 
 use Rattle.report.specs.Promises.{total, CheckCountsLines, CheckRefusalsWriteNothing}
 use Rattle.storefile.proofs.Openings.{Outcome, accepted, refused, outcome}
 use Rattle.report.proofs.Checking.{check-refused, check-turned-back, check-counted}
-use Rattle.report.proofs.Marked.{read-mark, repaired-marks, repaired-count}
 use Rattle.report.proofs.Adding.{counts-add-up}
 
 -- ---- which answers hand over
@@ -44,9 +46,10 @@ module _ (rows columns : ℕ) (lines rowTable columnTable out marks : List ℕ) 
   handed =
       let gs = groups rows columns rowTable columnTable in
       let found = linesIn (rows * columns) lines in
+      let given : MarksOf (length found) (marksOf (repair (readLine lineLayer) gs found .cells)) = repair-marks lineLayer kept gs found in
       over (answer-hands-over gs (repair (readLine lineLayer) gs found .cells))
-      (repaired-count (readLine lineLayer) gs found ∙ length-linesIn (rows * columns) lines)
-      (repaired-marks (readLine lineLayer) read-mark gs found)
+      (given .each ∙ length-linesIn (rows * columns) lines)
+      (given .high)
 
   repairing : Repairing (rows * columns) out marks (repairStore rows columns lines rowTable columnTable out marks)
   repairing = go (zero-or-not (repairRefusal rows columns lines rowTable columnTable out marks))

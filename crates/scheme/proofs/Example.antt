@@ -65,6 +65,14 @@ module _ (k a : ℕ) (found : Word) where
       go true e = let few : weight found ≤ 1 = leb-true (weight found) 1 e in inr (rw (light few) (few, refl))
       go false e = inl (ap (λ (x : Cell). x .mark) (heavy e))
 
+  zero-marks : (readZero k a found .mark ≤ 1) ⊎ (readZero k a found .mark ≡ 4)
+  zero-marks = go zero-sound
+    where
+      go : (readZero k a found .mark ≡ 4) ⊎ ((readZero k a found .mark ≤ 1) × (readZero k a found .line ≡ zeros k))
+          → (readZero k a found .mark ≤ 1) ⊎ (readZero k a found .mark ≡ 4)
+      go (inl e) = inr e
+      go (inr c) = inl (c .0)
+
 pub zeroPromises : (k : ℕ) → Promises (zeroLayer k)
 zeroPromises k =
     record {
@@ -75,6 +83,7 @@ zeroPromises k =
       detects = λ a w found c l h. zero-detects k a found w c l;
       kept = λ a found l h. zero-kept k a found h;
       sound = λ a found l. zero-sound k a found;
+      marks = λ a found. zero-marks k a found;
     }
 
 -- two rows and two columns of zero lines of four places

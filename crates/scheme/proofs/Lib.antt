@@ -10,6 +10,7 @@ pub mod Steps
 pub mod Passes
 pub mod Stays
 pub mod Width
+pub mod Marking
 pub mod Faithful
 pub mod Mends
 pub mod Pair

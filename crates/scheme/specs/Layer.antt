@@ -62,3 +62,5 @@ pub record Promises (layer : Layer) : Type 0 where
   pub sound : (a : ℕ) (found : Word) → length found ≡ layer .width
       → (layer .read a found .mark ≡ 4)
       ⊎ ((layer .read a found .mark ≤ 1) × layer .Correct a (layer .read a found .line))
+  -- whatever is read, its mark is 0, 1 or 4
+  pub marks : (a : ℕ) (found : Word) → (layer .read a found .mark ≤ 1) ⊎ (layer .read a found .mark ≡ 4)

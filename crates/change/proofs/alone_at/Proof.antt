@@ -1,7 +1,6 @@
 -- `change::alone_at` meets its contract.
 use borrow.Author.Needs.{needs}
-use mathlib.Core.Path.{ap, _∙_}
-use Rattle.linecode.specs.Entry.{reading}
+use Rattle.rectangle.proofs.LineLayer.{read-at}
 use Rattle.change.proofs.alone_at.Statement.{statement}
 use Rattle.change.proofs.alone_at.Tie as tie
 
@@ -12,7 +11,7 @@ read-line-requires : tie.Need-read-line-requires
 read-line-requires c κs = search needs
 
 returns : tie.Need-returns
-returns c = c .read-line .ensures ∙ ap reading (c .before .line-at .ensures)
+returns c = read-at _ _ _ _ (c .before .line-at .ensures) (c .read-line .ensures)
 
 pub alone-at-spec : {M : Type 1} → statement M
 alone-at-spec = tie.close (tie.spec line-at-requires read-line-requires returns)

@@ -5,9 +5,10 @@ use borrow.Author.Needs.{needs}
 use Rattle.linecode.specs.Places.{places, lineOf}
 use Rattle.rectangle.specs.Refusals.{changeRefusal}
 use Rattle.rectangle.specs.Change.{newLine, difference, addTo}
-use Rattle.rectangle.proofs.Alone.{line-alone}
+use Rattle.linecode.specs.declared.alone.Reading.{Reading}
+use Rattle.rectangle.proofs.LineLayer.{rewrites}
 use Rattle.change.proofs.Refusing.{some-columns, line-room, row-room, column-room, ChangePass, change-passed, change-refused, change-made}
-use Rattle.change.proofs.Changing.{new-line, put-new, both-places}
+use Rattle.change.proofs.Changing.{put-new, both-places}
 use Rattle.change.proofs.change_line.Statement.{statement}
 use Rattle.change.proofs.change_line.Tie as tie
 
@@ -101,7 +102,7 @@ new : (c : tie.After-rewrite)
 new c =
     let tested = c .before .before .before .before .before in
     let a = tested .before .before .before .before .before .before .before .before .before .args in
-    new-line (a .lines .now) (a .n) (a .payload .now) (pass tested .payloadBytes) (c .before .load .result) _
+    rewrites (a .n) (a .payload .now) (pass tested .payloadBytes) (c .before .load .result) _
     (c .before .load .ensures) (c .rewrite .ensures)
 
 both : (c : tie.After-xor-lines)
@@ -113,7 +114,7 @@ both c =
     let read = c .before .before .before .before .alone-at in
     both-places (a .lines .now) (a .n) (a .payload .now) (p .payloadBytes) (read .result .line) (c .before .rewrite .result) _
     (line-room _ _ _ _ _ (p .sizes) _ (p .inside))
-    (line-alone (a .lines .now) (a .n) (read .result) (read .ensures))
+    (ap (λ (r : Reading). r .line) (read .ensures))
     (new (c .before))
     (c .xor-lines .ensures)
 

@@ -1,9 +1,11 @@
 -- `change::parities_correct` meets its contract.
 use mathlib.Core.Path.{_≡_, sym, _∙_}
-use Rattle.linecode.specs.Code.{isCorrect}
+use Prim.Native.Nat.{ℕ}
 use borrow.Author.Needs.{needs}
-use Rattle.rectangle.specs.Store.{placesAt}
-use Rattle.change.proofs.Changing.{correct-at}
+use Rattle.rectangle.specs.Store.{rowGroup, columnGroup}
+use Rattle.rectangle.specs.Refusals.{parityCorrect}
+use Rattle.rectangle.proofs.LineLayer.{tested-as}
+use Rattle.change.proofs.Changing.{places-at}
 use Rattle.change.proofs.parities_correct.Statement.{statement}
 use Rattle.change.proofs.parities_correct.Tie as tie
 
@@ -19,27 +21,30 @@ column-parity-requires c κs = search needs
 is-correct-requires-2 : tie.Need-is-correct-requires-2
 is-correct-requires-2 c κs = search needs
 
--- both tests made
-of-row : (c : tie.After-is-correct2)
+-- both tests made, in a rectangle of any sides
+of-row : (columns : ℕ) (c : tie.After-is-correct2)
     → let a = c .before .before .before .before .before .before .args in
-    isCorrect (placesAt (a .row-table .now) (a .row .0)) ≡ c .before .before .is-correct .result
-of-row c =
+    parityCorrect (rowGroup columns (a .row-table .now) (a .row .0)) ≡ c .before .before .is-correct .result
+of-row columns c =
     let tested = c .before .before in
     let a = tested .before .before .before .before .args in
-    correct-at (a .row-table .now) (a .row .0) _ _ (tested .before .row-parity .ensures) (tested .is-correct .ensures)
+    sym (tested .is-correct .ensures
+    ∙ tested-as (rowGroup columns (a .row-table .now) (a .row .0)) _ (places-at (a .row-table .now) (a .row .0) _ (tested .before .row-parity .ensures)))
 
-of-column : (c : tie.After-is-correct2)
+of-column : (rows columns : ℕ) (c : tie.After-is-correct2)
     → let a = c .before .before .before .before .before .before .args in
-    isCorrect (placesAt (a .column-table .now) (a .column .0)) ≡ c .is-correct2 .result
-of-column c =
+    parityCorrect (columnGroup rows columns (a .column-table .now) (a .column .0)) ≡ c .is-correct2 .result
+of-column rows columns c =
     let a = c .before .before .before .before .before .before .args in
-    correct-at (a .column-table .now) (a .column .0) _ _ (c .before .column-parity .ensures) (c .is-correct2 .ensures)
+    sym (c .is-correct2 .ensures
+    ∙ tested-as (columnGroup rows columns (a .column-table .now) (a .column .0)) _
+    (places-at (a .column-table .now) (a .column .0) _ (c .before .column-parity .ensures)))
 
 returns : tie.Need-returns
-returns c = rw (of-row (c .before) ∙ c .if1 .taken) (sym (of-column (c .before)))
+returns c = λ rows columns. rw (of-row columns (c .before) ∙ c .if1 .taken) (sym (of-column rows columns (c .before)))
 
 returns-2 : tie.Need-returns-2
-returns-2 c = rw (of-row (c .before) ∙ c .if1 .left) (c .if1 .left)
+returns-2 c = λ rows columns. rw (of-row columns (c .before) ∙ c .if1 .left) (c .if1 .left)
 
 pub parities-correct-spec : {M : Type 1} → statement M
 parities-correct-spec =

@@ -1,13 +1,13 @@
 -- `change::refusal` meets its contract: each way out is one of the tests.
-use mathlib.Core.Path.{_≡_, sym, _∙_}
+use mathlib.Core.Path.{_≡_, sym, ap, _∙_}
 use mathlib.Core.Bool.{_&&_}
 use Prim.Native.Nat.{_/_, _%_}
 use native.Mathlib.Omega.{arith}
 use borrow.Author.Needs.{needs}
 use borrow.Author.Tests.{eq-eqb, ne-eqb, lt-ltb, le-ltb, not-true, not-false}
-use Rattle.linecode.specs.Code.{isCorrect}
-use Rattle.rectangle.specs.Store.{placesAt}
-use Rattle.rectangle.specs.Refusals.{unless, acceptedAt, changeRefusal}
+use Rattle.linecode.specs.declared.alone.Reading.{Reading}
+use Rattle.rectangle.specs.Store.{rowGroup, columnGroup}
+use Rattle.rectangle.specs.Refusals.{unless, parityCorrect, acceptedAt, changeRefusal}
 use Rattle.rectangle.proofs.Area.{area}
 use Rattle.rectangle.proofs.Alone.{faulty-alone, accepted-alone}
 use Rattle.rectangle.proofs.Refusing.{SizesPass, sizes-passed}
@@ -54,7 +54,8 @@ returns-3 c = rw (← next (c .before .before), eq-eqb _ 64 (c .before .if2 .lef
 -- past refusals 7 and 8 the definition tests the parity lines and then the line
 left : (c : tie.Else3)
     → let a = c .before .before .before .before .before .before .before .before .args in
-    unless (isCorrect (placesAt (a .row-table .now) (a .n / a .columns)) && isCorrect (placesAt (a .column-table .now) (a .n % a .columns))) 9
+    unless (parityCorrect (rowGroup (a .columns) (a .row-table .now) (a .n / a .columns))
+    && parityCorrect (columnGroup (a .rows) (a .columns) (a .column-table .now) (a .n % a .columns))) 9
     (unless (acceptedAt (a .lines .now) (a .n)) 10 0)
     ≡ changeRefusal (a .rows) (a .columns) (a .lines .now) (a .row-table .now) (a .column-table .now) (a .n) (a .payload .now)
 left c = rw (← next (c .before .before), eq-eqb _ 64 (c .before .if2 .left), lt-ltb _ _ (c .if3 .left))
@@ -76,7 +77,8 @@ alone-at-requires c κs = line-room _ _ _ _ _ (fit (c .before .before .before)) 
 returns-4 : tie.Need-returns-4
 returns-4 c =
     let parities = c .before .before in
-    rw (← left (parities .before), sym (parities .parities-correct .ensures) ∙ not-true _ (c .if4 .taken))
+    let a = parities .before .before .before .before .before .before .before .before .before .args in
+    rw (← left (parities .before), sym (parities .parities-correct .ensures (a .rows) (a .columns)) ∙ not-true _ (c .if4 .taken))
 
 -- past refusal 9 the definition tests the line
 last : (c : tie.Else4)
@@ -85,19 +87,20 @@ last : (c : tie.Else4)
     ≡ changeRefusal (a .rows) (a .columns) (a .lines .now) (a .row-table .now) (a .column-table .now) (a .n) (a .payload .now)
 last c =
     let parities = c .before .before in
-    rw (← left (parities .before), sym (parities .parities-correct .ensures) ∙ not-false _ (c .if4 .left))
+    let a = parities .before .before .before .before .before .before .before .before .before .args in
+    rw (← left (parities .before), sym (parities .parities-correct .ensures (a .rows) (a .columns)) ∙ not-false _ (c .if4 .left))
 
 returns-5 : tie.Need-returns-5
 returns-5 c =
     let a = c .before .before .before .before .before .before .before .before .before .before .before .before .args in
     let read = c .before .before .alone-at in
-    rw (← last (c .before), faulty-alone (a .lines .now) (a .n) (read .result) (read .ensures) (c .if5 .taken))
+    rw (← last (c .before), faulty-alone (a .lines .now) (a .n) (read .result .mark) (ap (λ (r : Reading). r .mark) (read .ensures)) (c .if5 .taken))
 
 returns-6 : tie.Need-returns-6
 returns-6 c =
     let a = c .before .before .before .before .before .before .before .before .before .before .before .before .args in
     let read = c .before .before .alone-at in
-    rw (← last (c .before), accepted-alone (a .lines .now) (a .n) (read .result) (read .ensures) (c .if5 .left))
+    rw (← last (c .before), accepted-alone (a .lines .now) (a .n) (read .result .mark) (ap (λ (r : Reading). r .mark) (read .ensures)) (c .if5 .left))
 
 pub refusal-spec : {M : Type 1} → statement M
 refusal-spec =

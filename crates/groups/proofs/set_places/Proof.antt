@@ -7,7 +7,7 @@ use mathlib.Core.Logic.{⊎-elim}
 use lib.ListN.{length}
 use Rattle.linecode.specs.Places.{places}
 use Rattle.linecode.proofs.Bytes.{array-length}
-use Rattle.linecode.proofs.Line.{places-is, length-places}
+use Rattle.rectangle.proofs.Spare.{places-is, length-places}
 use Rattle.groups.proofs.Listing.{Listing, listing-start, listing-zero, listing-busy, listing-kept, listing-full, listing-clear, listing-past, listing-end, relist, relist-array}
 use Rattle.groups.proofs.set_places.Statement.{statement}
 use Rattle.groups.proofs.set_places.Tie as tie

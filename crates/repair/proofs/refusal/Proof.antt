@@ -42,16 +42,16 @@ rows-correct-requires : tie.Need-rows-correct-requires
 rows-correct-requires c κs = (c .before .before .before .before .before .before .before .before .before .pre, sizes (c .before .before) .rowBytes)
 
 returns-4 : tie.Need-returns-4
-returns-4 c = parity-decides _ _ _ _ _ _ _ (sizes (c .before .before .before .before)) (c .before .before .before .if2 .left) (c .before .before .if3 .left) false _ (sym (c .before .rows-correct .ensures) ∙ not-true _ (c .if4 .taken)) (refl)
+returns-4 c = parity-decides _ _ _ _ _ _ _ (sizes (c .before .before .before .before)) (c .before .before .before .if2 .left) (c .before .before .if3 .left) false _ (sym (c .before .rows-correct .ensures _) ∙ not-true _ (c .if4 .taken)) (refl)
 
 columns-correct-requires : tie.Need-columns-correct-requires
 columns-correct-requires c κs = (c .before .before .before .before .before .before .before .before .before .before .before .pre, sizes (c .before .before .before .before) .columnBytes)
 
 returns-5 : tie.Need-returns-5
-returns-5 c = parity-decides _ _ _ _ _ _ _ (sizes (c .before .before .before .before .before .before)) (c .before .before .before .before .before .if2 .left) (c .before .before .before .before .if3 .left) true false (sym (c .before .before .before .rows-correct .ensures) ∙ not-false _ (c .before .before .if4 .left)) (sym (c .before .columns-correct .ensures) ∙ not-true _ (c .if5 .taken))
+returns-5 c = parity-decides _ _ _ _ _ _ _ (sizes (c .before .before .before .before .before .before)) (c .before .before .before .before .before .if2 .left) (c .before .before .before .before .if3 .left) true false (sym (c .before .before .before .rows-correct .ensures _) ∙ not-false _ (c .before .before .if4 .left)) (sym (c .before .columns-correct .ensures _) ∙ not-true _ (c .if5 .taken))
 
 returns-6 : tie.Need-returns-6
-returns-6 c = parity-decides _ _ _ _ _ _ _ (sizes (c .before .before .before .before .before .before)) (c .before .before .before .before .before .if2 .left) (c .before .before .before .before .if3 .left) true true (sym (c .before .before .before .rows-correct .ensures) ∙ not-false _ (c .before .before .if4 .left)) (sym (c .before .columns-correct .ensures) ∙ not-false _ (c .if5 .left))
+returns-6 c = parity-decides _ _ _ _ _ _ _ (sizes (c .before .before .before .before .before .before)) (c .before .before .before .before .before .if2 .left) (c .before .before .before .before .if3 .left) true true (sym (c .before .before .before .rows-correct .ensures _) ∙ not-false _ (c .before .before .if4 .left)) (sym (c .before .columns-correct .ensures _) ∙ not-false _ (c .if5 .left))
 
 pub refusal-spec : {M : Type 1} → statement M
 refusal-spec =

@@ -8,6 +8,7 @@ use lib.ListN.{length, take, getD}
 use lib.Seq.{getD-take}
 use Rattle.linecode.proofs.Bytes.{array-length}
 use Rattle.rectangle.specs.Store.{bytesAt}
+use Rattle.rectangle.proofs.LineLayer.{read-as}
 use Rattle.groups.specs.Lent.{Room, Some}
 use Rattle.groups.proofs.Walk.{walk-in, walk-small}
 use Rattle.mending.proofs.Trying.{Searching, searching-start, searching-next, searching-failed, searching-found, tried-line, tried-long, Trying, trying-start, trying-some, trying-other, trying-failed, trying-mended, trying-end, four, retry, recarry, tries-length}
@@ -85,7 +86,7 @@ search-again c =
       found .3,
       found .4,
       found .5,
-      searching-next _ _ _ _ (found .6) (found .4) more _ (sym (getD-take (tries .count) (tries .at) _ 0 (c .before .before .before .before .search-test .taken))) _ (c .before .before .before .flip-place .ensures) _ (c .before .before .read .ensures) (c .if2 .left),
+      searching-next _ _ _ _ (found .6) (found .4) more _ (sym (getD-take (tries .count) (tries .at) _ 0 (c .before .before .before .before .search-test .taken))) _ (c .before .before .before .flip-place .ensures) _ (c .before .before .read .ensures ∙ read-as _ _) (c .if2 .left),
     )
 
 add-n : tie.Need-add-n Inv-search μ-search Inv-loop μ-loop
@@ -117,11 +118,11 @@ loop-again c =
           let place = sym (getD-take (tries .count) (tries .at) (w .3 .j) 0 (w .4 .taken)) in
           retry _ _ _ _ _ _ _ _ _ _ _ _ _ _ _ _ _ _ _ _ (w .23) (w .24) (w .25) (w .26)
           (trying-mended _ _ _ _ _ _ _ _ _ _ _ _ _ _ _ _ (here .inv .2) more (w .0 .taken) (w .2 .result) (w .2 .ensures) _ _ _ _ _ _
-          (tried-long _ _ _ _ (found .6) (found .4) yet _ place _ (w .5 .ensures) _ (w .6 .ensures))
-          (tried-line _ _ _ _ (found .6) (found .4) yet _ place _ (w .5 .ensures) _ (w .6 .ensures))
+          (tried-long _ _ _ _ (found .6) (found .4) yet _ place _ (w .5 .ensures) _ (w .6 .ensures ∙ read-as _ _))
+          (tried-line _ _ _ _ (found .6) (found .4) yet _ place _ (w .5 .ensures) _ (w .6 .ensures ∙ read-as _ _))
           (same-room _ _ _ _ _ _ _ _ _ _ (here .inv .2 .room) (w .14 .kept .0 ∙ ap length (found .0)) (w .14 .kept .1 .0 ∙ ap length (found .1)) (w .14 .kept .1 .1 .0 ∙ ap length (found .2)) (w .14 .kept .1 .1 .1 .0 ∙ ap length (found .3)))
           (λ parity s x h. w .14 .ensures parity s x (recarry _ _ _ _ _ _ _ _ _ _ _ _ (found .0) (found .1) (found .2) (found .3) h))
-          (searching-found _ _ _ _ (found .6) (found .4) yet _ place _ (w .5 .ensures) _ (w .6 .ensures) (w .8 .taken))))
+          (searching-found _ _ _ _ (found .6) (found .4) yet _ place _ (w .5 .ensures) _ (w .6 .ensures ∙ read-as _ _) (w .8 .taken))))
           (λ w. retry _ _ _ _ _ _ _ _ _ _ _ _ _ _ _ _ _ _ _ _ (w .1) (w .2) (w .3) (w .4) (trying-other _ _ _ _ _ _ _ _ _ _ _ _ _ _ _ _ (here .inv .2) more (w .0 .left))))
           (c .before .if1 .came),
     )

@@ -3,10 +3,9 @@ use mathlib.Core.Path.{_≡_, sym, ap, _∙_}
 use mathlib.Core.List.{List}
 use Prim.Native.Nat.{ℕ}
 use Rattle.linecode.specs.Places.{places}
-use Rattle.linecode.specs.Entry.{reading}
-use Rattle.linecode.specs.declared.alone.Reading.{Reading}
 use Rattle.sweep.specs.Sums.{bothSums}
-use Rattle.rectangle.specs.Store.{putBytes}
+use Rattle.rectangle.proofs.LineLayer.{read-at}
+use Rattle.rectangle.proofs.Alone.{put-alone}
 use borrow.Author.Needs.{needs}
 use Rattle.rectangle.proofs.lines.read_into.Statement.{statement}
 use Rattle.rectangle.proofs.lines.read_into.Tie as tie
@@ -33,10 +32,10 @@ returns c =
     let tested = put .before .before .before in
     let loaded = tested .before in
     let start = loaded .before .before .before in
-    let read = sym (tested .is-untouched .ensures (put .before .before .if1 .taken)) ∙ ap reading (loaded .line-at .ensures) in (
-      put .put-line .ensures ∙ ap (λ (r : Reading). putBytes (start .args .out .now) (start .args .m) (r .line)) read,
-      ap (λ (r : Reading). r .mark) read,
-    )
+    put-alone (start .args .found .now) (start .args .n) _ _ _
+    (read-at (start .args .found .now) (start .args .n) _ _ (loaded .line-at .ensures)
+    (sym (tested .is-untouched .ensures (put .before .before .if1 .taken))))
+    _ (put .put-line .ensures)
 
 read-summed-requires : tie.Need-read-summed-requires
 read-summed-requires c κs = (c .before .before .before .before .before .pre .0, summed (c .before .before))
@@ -53,10 +52,9 @@ returns-2 c =
     let hurt = put .before .before .before in
     let loaded = hurt .before .before .before in
     let start = loaded .before .before .before in
-    let read = hurt .read-summed .ensures ∙ ap reading (loaded .line-at .ensures) in (
-      put .put-line2 .ensures ∙ ap (λ (r : Reading). putBytes (start .args .out .now) (start .args .m) (r .line)) read,
-      ap (λ (r : Reading). r .mark) read,
-    )
+    put-alone (start .args .found .now) (start .args .n) _ _ _
+    (read-at (start .args .found .now) (start .args .n) _ _ (loaded .line-at .ensures) (hurt .read-summed .ensures))
+    _ (put .put-line2 .ensures)
 
 pub read-into-spec : {M : Type 1} → statement M
 read-into-spec =

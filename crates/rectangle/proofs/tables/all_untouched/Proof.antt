@@ -7,9 +7,10 @@ use native.Mathlib.Omega.{arith}
 use borrow.Author.Tests.{not-false}
 use lib.ListN.{length}
 use Rattle.linecode.specs.Places.{places}
-use Rattle.linecode.specs.Entry.{reading}
+use Rattle.linecode.specs.declared.alone.Reading.{Reading}
 use Rattle.sweep.specs.Sums.{bothSums}
 use Rattle.rectangle.specs.Store.{bytesAt}
+use Rattle.rectangle.proofs.LineLayer.{read-at}
 use Rattle.rectangle.proofs.Pieces.{nth-within, PieceTurn, piece-starts, piece-stands, piece-ends}
 use Rattle.rectangle.proofs.tables.all_untouched.Statement.{statement}
 use Rattle.rectangle.proofs.tables.all_untouched.Tie as tie
@@ -57,11 +58,11 @@ loop-again : tie.Need-loop-again Inv-loop μ-loop
 loop-again c =
     let tested = c .before in
     let loaded = tested .before in
-    let here = loaded .before .before .loop in (
+    let here = loaded .before .before .loop in
+    let read =
+    read-at _ _ _ _ (loaded .line-at .ensures) (sym (tested .is-untouched .ensures (not-false _ (c .if1 .left)))) in (
       omega arith,
-      piece-stands _ _ _ (here .inv .1)
-          (sym (ap reading (loaded .line-at .ensures)) ∙ tested .is-untouched .ensures (not-false _ (c .if1 .left))
-          ∙ ap (λ (l : List ℕ). record { line = l; mark = 0 }) (loaded .line-at .ensures)),
+      piece-stands _ _ _ (here .inv .1) _ (loaded .line-at .ensures) (ap (λ (r : Reading). r .line) read) (ap (λ (r : Reading). r .mark) read),
     )
 
 returns-2 : tie.Need-returns-2 Inv-loop μ-loop

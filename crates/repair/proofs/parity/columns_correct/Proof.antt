@@ -1,25 +1,25 @@
 -- `repair::parity::columns_correct` meets its contract.
 use native.Mathlib.Omega.{arith}
 use mathlib.Core.Path.{sym, ap, _∙_}
-use mathlib.Core.List.{List}
 use Prim.Native.Nat.{ℕ, _-_}
 use native.Mathlib.Nat.{mul-le-mul-right}
 use borrow.Author.Tests.{not-true, not-false}
 use Rattle.linecode.specs.Places.{places}
-use Rattle.linecode.specs.Code.{isCorrect}
-use Rattle.rectangle.specs.Store.{placesAt}
+use Rattle.rectangle.specs.Store.{placesAt, columnGroup}
+use Rattle.rectangle.specs.Refusals.{parityCorrect}
+use Rattle.rectangle.proofs.LineLayer.{tested-as}
 use Rattle.groups.proofs.Checking.{Checked, checked-start, checked-next, checked-failed, checked-end}
 use Rattle.repair.proofs.parity.columns_correct.Statement.{statement}
 use Rattle.repair.proofs.parity.columns_correct.Tie as tie
 
 abbrev Inv-loop : tie.InvT-loop
-Inv-loop table columns column-table c₀ c = Checked (λ k. isCorrect (placesAt column-table k)) columns c
+Inv-loop table columns column-table c₀ c = (rows : ℕ) → Checked (λ k. parityCorrect (columnGroup rows columns column-table k)) columns c
 
 abbrev μ-loop : tie.MeasureT-loop
 μ-loop table columns column-table c₀ c = columns - c
 
 loop-holds : tie.Need-loop-holds Inv-loop μ-loop
-loop-holds c = checked-start _ _
+loop-holds c = λ rows. checked-start _ _
 
 column-parity-requires : tie.Need-column-parity-requires Inv-loop μ-loop
 column-parity-requires c κs = omega (arith, c .before .before .before .pre .1, mul-le-mul-right 70 (c .loop-test .taken))
@@ -29,7 +29,7 @@ is-correct-requires c κs = c .before .before .before .before .pre .0
 
 returns : tie.Need-returns Inv-loop μ-loop
 unfolding placesAt
-returns c = checked-failed _ _ _ (c .before .before .before .before .loop .inv) (c .before .before .before .loop-test .taken) (sym (c .before .is-correct .ensures ∙ ap (λ (l : List ℕ). isCorrect (places l)) (c .before .before .column-parity .ensures)) ∙ not-true _ (c .if1 .taken))
+returns c = λ rows. checked-failed _ _ _ (c .before .before .before .before .loop .inv rows) (c .before .before .before .loop-test .taken) (sym (c .before .is-correct .ensures ∙ tested-as (columnGroup rows _ _ _) _ (ap places (sym (c .before .before .column-parity .ensures)))) ∙ not-true _ (c .if1 .taken))
 
 add-c : tie.Need-add-c Inv-loop μ-loop
 add-c c = omega arith
@@ -39,10 +39,10 @@ loop-less c = omega arith
 
 loop-again : tie.Need-loop-again Inv-loop μ-loop
 unfolding placesAt
-loop-again c = checked-next _ _ _ (c .before .before .before .before .loop .inv) (c .before .before .before .loop-test .taken) (sym (c .before .is-correct .ensures ∙ ap (λ (l : List ℕ). isCorrect (places l)) (c .before .before .column-parity .ensures)) ∙ not-false _ (c .if1 .left))
+loop-again c = λ rows. checked-next _ _ _ (c .before .before .before .before .loop .inv rows) (c .before .before .before .loop-test .taken) (sym (c .before .is-correct .ensures ∙ tested-as (columnGroup rows _ _ _) _ (ap places (sym (c .before .before .column-parity .ensures)))) ∙ not-false _ (c .if1 .left))
 
 returns-2 : tie.Need-returns-2 Inv-loop μ-loop
-returns-2 c = checked-end _ _ _ (c .before .loop .inv) (c .loop-test .left)
+returns-2 c = λ rows. checked-end _ _ _ (c .before .loop .inv rows) (c .loop-test .left)
 
 pub columns-correct-spec : {M : Type 1} → statement M
 columns-correct-spec =

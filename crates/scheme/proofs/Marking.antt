@@ -1,40 +1,18 @@
 -- Every mark that repair gives is one of 0 to 4, and there is one for each line.
 use mathlib.Core.Path.{_≡_, _∙_}
+use mathlib.Core.Logic.{_⊎_, inl, inr}
 use mathlib.Core.Bool.{Bool, true, false, cond}
 use mathlib.Core.List.{List, [], _∷_}
 use Prim.Native.Nat.{ℕ, zero, suc, _≤_, _<_}
 use native.Mathlib.Omega.{arith}
 use lib.ListN.{length, getD, set, length-map}
 use Rattle.gf2.specs.Word.{Word, flip}
-use Rattle.linecode.specs.Code.{accepted, syndrome, answerTo}
-use Rattle.linecode.specs.Reading.{afterFlip, corrected, firstLook, readAlone}
-use Rattle.linecode.specs.declared.hamming.Answer.{Answer}
-use Rattle.linecode.specs.declared.hamming.Answer.the-variants.{None, Hamming, Protected}
-use Rattle.scheme.specs.Layer.{Cell, Reading, readLine}
+use Rattle.scheme.specs.Layer.{Cell, Reading, Layer, readLine, Promises}
 use Rattle.scheme.specs.Visit.{Group, State, cellAt, isFaulty, faultyOf, rebuild, rebuildOnly, settle, mismatch, tryPlaces, tryLines, triable, trial, visit}
 use Rattle.scheme.specs.Repair.{readAll, pass, repair, marksOf}
+use Rattle.scheme.specs.Marks.{RepairMarks}
 use Rattle.scheme.proofs.Passes.{by-rounds}
 use Rattle.scheme.proofs.Stays.{repair-length}
-use Rattle.rectangle.specs.Store.{lineLayer, readUnder}
-
--- ---- reading alone gives 0, 1 or 4
-module _ (w : Word) where
-  flip-mark : (b : Bool) (flipped : Word) → afterFlip b flipped w .mark ≤ 4
-  flip-mark true flipped = omega arith
-  flip-mark false flipped = omega arith
-
-  corrected-mark : (a : Answer) → corrected a w .mark ≤ 4
-  corrected-mark None = omega arith
-  corrected-mark (Hamming k) = omega arith
-  corrected-mark (Protected i) = flip-mark (accepted (flip i w)) (flip i w)
-
-  look-mark : (b : Bool) → firstLook b w .mark ≤ 4
-  look-mark true = omega arith
-  look-mark false = corrected-mark (answerTo (syndrome w))
-
-pub read-mark : (n : ℕ) (found : Word) → readLine lineLayer n found .mark ≤ 4
-unfolding readUnder readAlone
-read-mark n found = look-mark found (accepted found)
 
 -- ---- every mark of a store is one of 0 to 4
 abbrev Marked : State → Type 0
@@ -101,15 +79,25 @@ module _ (read : Reading) (gives : (n : ℕ) (found : Word) → read n found .ma
       by-rounds read gs (λ s r. Marked s → Marked (r .cells)) (λ s e h. h) (λ s e i h. marked-pass gs s h)
       (λ s later e i h. i (marked-pass gs s h)) (readAll read 0 found) (marked-reading 0 found)
 
-  marks-small : (s : State) → Marked s → (n : ℕ) → n < length (marksOf s) → getD (marksOf s) n 0 ≤ 4
-  marks-small [] h n i = omega arith
-  marks-small (c ∷ s) h zero i = h .0
-  marks-small (c ∷ s) h (suc n) i = marks-small s (h .1) n (omega arith)
+marks-high : (s : State) → Marked s → (n : ℕ) → n < length (marksOf s) → getD (marksOf s) n 0 ≤ 4
+marks-high [] h n i = omega arith
+marks-high (c ∷ s) h zero i = h .0
+marks-high (c ∷ s) h (suc n) i = marks-high s (h .1) n (omega arith)
 
-  pub repaired-marks : (gs : List Group) (found : List Word) (n : ℕ) → n < length (marksOf (repair read gs found .cells))
-      → getD (marksOf (repair read gs found .cells)) n 0 ≤ 4
-  repaired-marks gs found = marks-small (repair read gs found .cells) (marked-repair gs found)
+-- ---- any layer that keeps the promises
+pub repair-marks : (layer : Layer) → Promises layer → RepairMarks layer
+repair-marks layer promises gs found =
+    record {
+      each = length-map (repair read gs found .cells) (λ c. c .mark) ∙ repair-length read gs found;
+      high = marks-high (repair read gs found .cells) (marked-repair read gives gs found);
+    }
+  where
+    read : Reading
+    read = readLine layer
 
-pub repaired-count : (read : Reading) (gs : List Group) (found : List Word)
-    → length (marksOf (repair read gs found .cells)) ≡ length found
-repaired-count read gs found = length-map (repair read gs found .cells) (λ c. c .mark) ∙ repair-length read gs found
+    gives : (n : ℕ) (w : Word) → readLine layer n w .mark ≤ 4
+    gives n w = go (promises .marks (layer .address n) w)
+      where
+        go : (readLine layer n w .mark ≤ 1) ⊎ (readLine layer n w .mark ≡ 4) → readLine layer n w .mark ≤ 4
+        go (inl h) = omega arith
+        go (inr e) = omega arith

@@ -1,0 +1,85 @@
+-- The line code as the layer that repair sees. No other file above it opens reading, writing or the test of a correct line: each law
+-- here goes from what the functions below give, in bytes, to line n, or to a group's parity line.
+use mathlib.Core.Path.{_≡_, refl, sym, ap, _∙_, subst}
+use mathlib.Core.Logic.{_⊎_, inl, inr}
+use mathlib.Core.Bool.{true}
+use mathlib.Core.List.{List}
+use Prim.Native.Nat.{ℕ, suc-le-suc}
+use lib.ListN.{length}
+use Rattle.gf2.specs.Word.{Word}
+use Rattle.linecode.specs.Places.{linePlaces, dataBytes, places, lineOf, loaded}
+use Rattle.linecode.specs.Code.{dataOf, codeword, Correct, isCorrect}
+use Rattle.linecode.specs.Reading.{readAlone}
+use Rattle.linecode.specs.Entry.{reading}
+use Rattle.linecode.specs.Promises as Line
+use Rattle.linecode.specs.declared.alone.Reading.{Reading}
+use Rattle.linecode.proofs.Promises.{promises}
+use Rattle.linecode.proofs.LineLayout.{layout}
+use Rattle.scheme.specs.Layer.{readLine, CorrectLine, parityAddress, ReadsAs, Promises}
+use Rattle.scheme.specs.Visit.{Group}
+use Rattle.rectangle.specs.Store.{readUnder, writeUnder, CorrectUnder, isCorrectUnder, lineLayer, bytesAt, placesAt, aloneAt, inBytes}
+use Rattle.rectangle.specs.Refusals.{parityCorrect}
+use Rattle.rectangle.specs.Change.{newLine}
+
+-- ---- the promises that repair relies on
+reads-as : (a : ℕ) (w found : Word) → Line.ReadsAs w (readAlone found) → ReadsAs w (readUnder a found)
+unfolding readUnder
+reads-as a w found r = record { gives = r .gives; accepted = r .accepted }
+
+pub kept : Promises lineLayer
+unfolding readUnder CorrectUnder
+kept =
+    record {
+      sized = λ a w c. promises .sized w c;
+      apart = λ a w v c k d. promises .apart w v c k (suc-le-suc d);
+      summed = λ a b w v c k. promises .summed w v c k;
+      corrects = λ a w found c e d. reads-as a w found (promises .corrects w found c e d);
+      detects = λ a w found c e d. detected a w found (promises .detects w found c e d);
+      kept = λ a found e q. promises .kept found q;
+      sound = λ a found e. promises .sound found e;
+      marks = λ a found. promises .marks found;
+    }
+  where
+    detected : (a : ℕ) (w found : Word) → Line.ReadsAs w (readAlone found) ⊎ (readAlone found .mark ≡ 4)
+        → ReadsAs w (readUnder a found) ⊎ (readAlone found .mark ≡ 4)
+    detected a w found (inl r) = inl (reads-as a w found r)
+    detected a w found (inr q) = inr q
+
+-- ---- reading: bytes that are read as line n
+pub read-as : (n : ℕ) (line : List ℕ) → reading line ≡ inBytes (readLine lineLayer n (places line))
+unfolding reading readUnder
+read-as n line = refl
+
+-- the bytes of line n of a buffer
+pub read-at : (buffer : List ℕ) (n : ℕ) (line : List ℕ) (r : Reading) → line ≡ bytesAt buffer n → r ≡ reading line
+    → r ≡ inBytes (aloneAt buffer n)
+unfolding aloneAt placesAt
+read-at buffer n line r e f = f ∙ ap reading e ∙ read-as n (bytesAt buffer n)
+
+-- ---- correct lines: the test of a group's parity line, made on its bytes
+pub tested-as : (g : Group) (line : List ℕ) → g .parity ≡ places line → isCorrect (places line) ≡ parityCorrect g
+unfolding parityCorrect isCorrectUnder
+tested-as g line e = ap isCorrect (sym e)
+
+-- a parity line that has the places of a correct line passes
+pub parity-passes : (g : Group) (w : Word) → g .parity ≡ w → lineLayer .Correct (parityAddress lineLayer (g .members)) w
+    → parityCorrect g ≡ true
+unfolding parityCorrect isCorrectUnder CorrectUnder
+parity-passes g w e c = ap isCorrect e ∙ promises .tests w .1 c
+
+-- ---- writing line n from 64 data bytes
+module _ (n : ℕ) (payload : List ℕ) where
+  pub write-correct : length payload ≡ dataBytes → CorrectLine lineLayer n (newLine n payload)
+  unfolding newLine writeUnder CorrectUnder dataBytes
+  write-correct e = subst Correct (layout .writes payload e) (promises .writes payload e .0)
+
+  pub length-newLine : length payload ≡ 64 → length (newLine n payload) ≡ linePlaces
+  unfolding dataBytes
+  length-newLine e = kept .sized (lineLayer .address n) (newLine n payload) (write-correct e)
+
+  -- the data are loaded, and the rest written after them
+  pub rewrites : length payload ≡ 64 → (found new : List ℕ) → found ≡ loaded payload → new ≡ lineOf (codeword (dataOf (places found)))
+      → new ≡ lineOf (newLine n payload)
+  unfolding newLine writeUnder
+  rewrites e found new f g =
+      g ∙ ap (λ (l : List ℕ). lineOf (codeword (dataOf (places l)))) f ∙ ap (λ (w : Word). lineOf (codeword w)) (layout .loads payload e)
