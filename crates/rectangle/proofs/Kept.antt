@@ -8,12 +8,13 @@ use Rattle.linecode.specs.Promises as Line
 use Rattle.linecode.proofs.Promises.{promises}
 use Rattle.scheme.specs.Layer.{ReadsAs, Promises}
 use Rattle.rectangle.specs.Store.{lineLayer, readUnder}
-use Rattle.rectangle.specs.Demands.{TablesAreOfTheCode, ParityOfCorrectLines, FaultyAsFound, ExactReturn, NotAlike, EqualOrFourLines, ChangeEqualsTablesAnew}
+use Rattle.rectangle.specs.Demands.{TablesAreOfTheCode, ParityOfCorrectLines, FaultyAsFound, ExactReturn, NoWrongLine, NotAlike, EqualOrFourLines, ChangeEqualsTablesAnew}
 use Rattle.rectangle.proofs.Agreement as Agreement
 use Rattle.rectangle.proofs.Anew as Anew
 use Rattle.rectangle.proofs.Demand3 as Demand3
 use Rattle.rectangle.proofs.FourLines as FourLines
 use Rattle.rectangle.proofs.Handed as Handed
+use Rattle.rectangle.proofs.NoneWrong as NoneWrong
 use Rattle.rectangle.proofs.ParityLines as ParityLines
 
 reads-as : (a : ℕ) (w found : Word) → Line.ReadsAs w (readAlone found) → ReadsAs w (readUnder a found)
@@ -50,6 +51,9 @@ faultyAsFound = Handed.faultyAsFound kept
 
 pub exactReturn : ExactReturn
 exactReturn = Demand3.exactReturn kept
+
+pub noWrongLine : NoWrongLine
+noWrongLine = NoneWrong.noWrongLine kept
 
 pub notAlike : NotAlike
 notAlike = Demand3.notAlike kept
