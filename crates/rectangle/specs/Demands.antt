@@ -244,8 +244,8 @@ pub record HypothesisMet : Type 0 where
 
 -- ---- Document 00: "A missing caption I can cover with a spoken cue to the ushers; a caption mended into the wrong words stands there
 -- as the play."
--- a line with another mark than 4 is the line written; one with mark 4 is as found, spare bits 0, and has two or more damaged bits;
--- and answer 12, which says that some line is wrong, is never given
+-- a line with another mark than 4 is the line written (a mark left out would be a 0); one with mark 4 is as found, spare bits 0, and
+-- has two or more damaged bits; and answer 12, which says that some line is wrong, is never given
 pub record NoneWrong (written received : Rectangle) (given : StoreRepaired) : Type 0 where
   pub answers : (given .answer ≡ 0) ⊎ (given .answer ≡ 11)
   pub asWritten : (n : ℕ) → n < count written → (getD (given .marks) n 0 ≡ 4 → ⊥)
