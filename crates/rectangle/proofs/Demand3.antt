@@ -9,13 +9,13 @@ use Rattle.gf2.specs.Word.{Word}
 use Rattle.scheme.specs.Layer.{readLine, Promises}
 use Rattle.scheme.specs.Visit.{Group}
 use Rattle.scheme.specs.Repair.{repair, linesOf, answer}
-use Rattle.scheme.specs.Demand3.{Returned}
+use Rattle.scheme.specs.Demand3.{RisingGroups, Returned}
 use Rattle.scheme.specs.Demand3 as Scheme
 use Rattle.scheme.proofs.ExactReturn.{exact-return}
 use Rattle.rectangle.specs.Store.{lineLayer, placesAt, linesIn, bufferOf, groups}
 use Rattle.rectangle.specs.Refusals.{holds, repairRefusal}
 use Rattle.rectangle.specs.Repair.{repaired, handedOver, repairStore}
-use Rattle.rectangle.specs.Demands.{Rectangle, count, repairOf, Written, Alike, DamagedSo, ExactReturn, NotAlike}
+use Rattle.rectangle.specs.Demands.{Rectangle, count, repairOf, Written, Alike, WithinBounds, DamagedSo, ExactReturn, NotAlike}
 use Rattle.rectangle.proofs.Buffer.{linesIn-equal}
 use Rattle.rectangle.proofs.Groups.{rising-groups, equal-groups}
 use Rattle.rectangle.proofs.Runs.{repair-runs}
@@ -47,22 +47,20 @@ same-lines one w lines rowTable columnTable v e =
     ∙ sym (written-is (received one lines rowTable columnTable) v)
 
 module _ (promises : Promises lineLayer) where
+  -- within the bounds: the groups are those of a store written, and repair is not refused
   module _ (w : Rectangle) (written : Written w) (lines rowTable columnTable : List ℕ)
-      (damaged : DamagedSo w (received w lines rowTable columnTable)) where
+      (bounds : WithinBounds w (received w lines rowTable columnTable)) where
     rows-agree : (r : ℕ) → r < w .rows → placesAt rowTable r ≡ placesAt (w .rowTable) r
-    rows-agree = linesIn-equal (w .rows) rowTable (w .rowTable) (damaged .tables .rowTable)
+    rows-agree = linesIn-equal (w .rows) rowTable (w .rowTable) (bounds .tables .rowTable)
 
     columns-agree : (c : ℕ) → c < w .columns → placesAt columnTable c ≡ placesAt (w .columnTable) c
-    columns-agree = linesIn-equal (w .columns) columnTable (w .columnTable) (damaged .tables .columnTable)
+    columns-agree = linesIn-equal (w .columns) columnTable (w .columnTable) (bounds .tables .columnTable)
 
-    -- the scheme's exact return, over places
-    steps-return : Returned (groups (w .rows) (w .columns) rowTable columnTable) (wordsOf w)
-        (repair (readLine lineLayer) (groups (w .rows) (w .columns) rowTable columnTable) (linesIn (count w) lines))
-    steps-return =
-        exact-return lineLayer promises (groups (w .rows) (w .columns) rowTable columnTable)
-        (rising-groups (w .rows) (w .columns) (some-columns promises w written) rowTable columnTable) (wordsOf w)
-        (linesIn (count w) lines) (store-written promises w written rowTable columnTable rows-agree columns-agree)
-        (damaged .order) (mendable w (some-columns promises w written) lines rowTable columnTable damaged)
+    pub groups-rise : RisingGroups (groups (w .rows) (w .columns) rowTable columnTable)
+    groups-rise = rising-groups (w .rows) (w .columns) (some-columns promises w written) rowTable columnTable
+
+    pub groups-written : Scheme.Written lineLayer (groups (w .rows) (w .columns) rowTable columnTable) (wordsOf w)
+    groups-written = store-written promises w written rowTable columnTable rows-agree columns-agree
 
     module _ (out marks : List ℕ) (outBytes : holds (count w) out ≡ true) (markBytes : length marks ≡ count w) where
       not-refused : repairRefusal (w .rows) (w .columns) lines rowTable columnTable out marks ≡ 0
@@ -70,8 +68,8 @@ module _ (promises : Promises lineLayer) where
       not-refused =
           rw (
             written .sides,
-            damaged .lineBytes,
-            damaged .tableBytes,
+            bounds .lineBytes,
+            bounds .tableBytes,
             outBytes,
             eq-eqb (length marks) (count w) markBytes,
             parities-pass promises (w .rows) (w .columns) (some-rows promises w written) (some-columns promises w written) (w .lines)
@@ -80,12 +78,30 @@ module _ (promises : Promises lineLayer) where
                 (λ c h. columns-agree c h ∙ written-column promises w written c h),
           )
 
-      returns : (repairStore (w .rows) (w .columns) lines rowTable columnTable out marks .answer ≡ 0)
-          × (repairStore (w .rows) (w .columns) lines rowTable columnTable out marks .lines ≡ w .lines)
-      unfolding handedOver repaired
-      returns =
-          rw (repair-runs (w .rows) (w .columns) lines rowTable columnTable out marks 0 not-refused refl)
-          (steps-return .answers, ap bufferOf (steps-return .exactly) ∙ sym (written .lines))
+      pub runs : repairStore (w .rows) (w .columns) lines rowTable columnTable out marks
+          ≡ handedOver (groups (w .rows) (w .columns) rowTable columnTable)
+          (repaired (w .rows) (w .columns) lines rowTable columnTable)
+      runs = repair-runs (w .rows) (w .columns) lines rowTable columnTable out marks 0 not-refused refl
+
+  -- ---- the exact return
+  module _ (w : Rectangle) (written : Written w) (lines rowTable columnTable : List ℕ)
+      (damaged : DamagedSo w (received w lines rowTable columnTable)) where
+    -- the scheme's, over places
+    steps-return : Returned (groups (w .rows) (w .columns) rowTable columnTable) (wordsOf w)
+        (repair (readLine lineLayer) (groups (w .rows) (w .columns) rowTable columnTable) (linesIn (count w) lines))
+    steps-return =
+        exact-return lineLayer promises (groups (w .rows) (w .columns) rowTable columnTable)
+        (groups-rise w written lines rowTable columnTable (damaged .bounds)) (wordsOf w) (linesIn (count w) lines)
+        (groups-written w written lines rowTable columnTable (damaged .bounds)) (damaged .order)
+        (mendable w (some-columns promises w written) lines rowTable columnTable damaged)
+
+    returns : (out marks : List ℕ) → holds (count w) out ≡ true → length marks ≡ count w
+        → (repairStore (w .rows) (w .columns) lines rowTable columnTable out marks .answer ≡ 0)
+        × (repairStore (w .rows) (w .columns) lines rowTable columnTable out marks .lines ≡ w .lines)
+    unfolding handedOver repaired
+    returns out marks outBytes markBytes =
+        rw (runs w written lines rowTable columnTable (damaged .bounds) out marks outBytes markBytes)
+        (steps-return .answers, ap bufferOf (steps-return .exactly) ∙ sym (written .lines))
 
   pub exactReturn : ExactReturn
   unfolding repairOf
@@ -93,7 +109,7 @@ module _ (promises : Promises lineLayer) where
       subst
       (λ (s : Rectangle). DamagedSo w s → holds (count s) out ≡ true → length marks ≡ count s
       → (repairOf s out marks .answer ≡ 0) × (repairOf s out marks .lines ≡ w .lines))
-      (sym (same-sides w r (damaged .rows) (damaged .columns)))
+      (sym (same-sides w r (damaged .bounds .rows) (damaged .bounds .columns)))
       (λ d. returns w written (r .lines) (r .rowTable) (r .columnTable) d out marks) damaged outBytes markBytes
 
   -- ---- none look alike
@@ -126,12 +142,12 @@ module _ (promises : Promises lineLayer) where
       ∙ sym p
     where
       t : s ≡ received one (s .lines) (s .rowTable) (s .columnTable)
-      t = same-sides one s (sym (alike .rows) ∙ d .rows) (sym (alike .columns) ∙ d .columns)
+      t = same-sides one s (sym (alike .rows) ∙ d .bounds .rows) (sym (alike .columns) ∙ d .bounds .columns)
 
       p : two ≡ received one (two .lines) (two .rowTable) (two .columnTable)
       p =
-          same-sides one two (sym (d′ .rows) ∙ sym (alike .rows) ∙ d .rows)
-          (sym (d′ .columns) ∙ sym (alike .columns) ∙ d .columns)
+          same-sides one two (sym (d′ .bounds .rows) ∙ sym (alike .rows) ∙ d .bounds .rows)
+          (sym (d′ .bounds .columns) ∙ sym (alike .columns) ∙ d .bounds .columns)
 
       q : r ≡ received one (r .lines) (r .rowTable) (r .columnTable)
-      q = same-sides one r (d .rows) (d .columns)
+      q = same-sides one r (d .bounds .rows) (d .bounds .columns)

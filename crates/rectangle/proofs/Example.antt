@@ -19,7 +19,7 @@ use Rattle.scheme.specs.Demand3.{_∈_, wordAt}
 use Rattle.rectangle.specs.Store.{lineLayer, placesAt, linesIn, bufferOf}
 use Rattle.rectangle.specs.Refusals.{sideFits, sidesFit, holds}
 use Rattle.rectangle.specs.Change.{newLine}
-use Rattle.rectangle.specs.Demands.{Rectangle, count, repairOf, Written, Distinct, damage, damagedAt, Alone, Paired, DamagedSo, HypothesisMet}
+use Rattle.rectangle.specs.Demands.{Rectangle, count, repairOf, Written, Distinct, damage, damagedAt, Alone, Paired, WithinBounds, DamagedSo, HypothesisMet}
 use Rattle.rectangle.proofs.Members.{in-upFrom, upFrom-bounds}
 use Rattle.rectangle.proofs.Spare.{places-is}
 use Rattle.rectangle.proofs.Buffer.{Sized, placesAt-bufferOf, length-bufferOf, length-holds, linesIn-equal}
@@ -145,9 +145,9 @@ module _ (promises : Promises lineLayer) (a b c d : Word)
   last-in-column m (inl e) f = omega (arith, rw e at f)
   last-in-column m (inr i) f = i
 
-  damaged : DamagedSo stored found
+  bounds : WithinBounds stored found
   unfolding stored found rs rectangleOf
-  damaged =
+  bounds =
       record {
         rows = refl;
         columns = refl;
@@ -155,6 +155,13 @@ module _ (promises : Promises lineLayer) (a b c d : Word)
         tableBytes = lengths-tables 2 2 _ _ (rowTable-bytes 2 2 (bufferOf ws)) (columnTable-bytes 2 2 (bufferOf ws));
         tables = record { rowTable = refl; columnTable = refl };
         five = λ n h. omega (arith, two-bits n h);
+      }
+
+  damaged : DamagedSo stored found
+  unfolding stored found rectangleOf
+  damaged =
+      record {
+        bounds = bounds;
         order = 0 ∷ 1 ∷ 2 ∷ 3 ∷ [];
         once = upFrom-distinct 0 4;
         each = λ n h k. listed n h;

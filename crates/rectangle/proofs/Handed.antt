@@ -48,13 +48,13 @@ in-range (a ∷ l) zero d e h = refl
 in-range (a ∷ l) (suc n) d e h = in-range l n d e (le-of-suc-le-suc h)
 
 module _ (s : State) (n : ℕ) (inside : n < length s) where
-  line-handed : bytesAt (bufferOf (linesOf s)) n ≡ lineOf (lineAt s n)
+  pub line-handed : bytesAt (bufferOf (linesOf s)) n ≡ lineOf (lineAt s n)
   line-handed =
       bytesAt-bufferOf (linesOf s) n (omega (arith, length-map s (λ (c : Cell). c .line)))
       ∙ ap lineOf (List·getD-map (λ (c : Cell). c .line) s n (record { line = []; mark = 0 }))
 
   -- whatever stands past the end
-  mark-handed : (d : ℕ) → getD (marksOf s) n d ≡ cellAt s n .mark
+  pub mark-handed : (d : ℕ) → getD (marksOf s) n d ≡ cellAt s n .mark
   mark-handed d =
       List·getD-map (λ (c : Cell). c .mark) s n (record { line = []; mark = d })
       ∙ ap (λ (c : Cell). c .mark) (in-range s n _ _ inside)

@@ -1,10 +1,11 @@
 -- The line code keeps the promises that repair relies on, and so the demands hold.
-use Rattle.rectangle.specs.Demands.{TablesAreOfTheCode, ParityOfCorrectLines, FaultyAsFound, ExactReturn, NotAlike, EqualOrFourLines, ChangeEqualsTablesAnew}
+use Rattle.rectangle.specs.Demands.{TablesAreOfTheCode, ParityOfCorrectLines, FaultyAsFound, ExactReturn, NoWrongLine, NotAlike, EqualOrFourLines, ChangeEqualsTablesAnew}
 use Rattle.rectangle.proofs.Agreement as Agreement
 use Rattle.rectangle.proofs.Anew as Anew
 use Rattle.rectangle.proofs.Demand3 as Demand3
 use Rattle.rectangle.proofs.FourLines as FourLines
 use Rattle.rectangle.proofs.Handed as Handed
+use Rattle.rectangle.proofs.NoneWrong as NoneWrong
 use Rattle.rectangle.proofs.ParityLines as ParityLines
 pub use Rattle.rectangle.proofs.LineLayer.{kept}
 
@@ -20,6 +21,9 @@ faultyAsFound = Handed.faultyAsFound kept
 
 pub exactReturn : ExactReturn
 exactReturn = Demand3.exactReturn kept
+
+pub noWrongLine : NoWrongLine
+noWrongLine = NoneWrong.noWrongLine kept
 
 pub notAlike : NotAlike
 notAlike = Demand3.notAlike kept

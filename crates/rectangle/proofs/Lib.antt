@@ -26,6 +26,7 @@ pub mod ParityLines
 pub mod Written
 pub mod Order
 pub mod Demand3
+pub mod NoneWrong
 pub mod FourLines
 pub mod Agreement
 pub mod Anew

@@ -12,7 +12,7 @@ use Rattle.scheme.specs.Visit.{Group}
 use Rattle.scheme.specs.Demand3.{_∈_}
 use Rattle.scheme.specs.Demand3 as Scheme
 use Rattle.rectangle.specs.Store.{lineLayer, linesIn, row, column, rowGroup, columnGroup, groups}
-use Rattle.rectangle.specs.Demands.{Rectangle, count, Distinct, damage, damagedAt, Alone, Paired, Turn, Turns, DamagedSo}
+use Rattle.rectangle.specs.Demands.{Rectangle, count, Distinct, damage, damagedAt, Alone, Paired, Turn, Turns, WithinBounds, DamagedSo}
 use Rattle.rectangle.proofs.Buffer.{length-placesAt, length-linesIn, linesIn-at, holds-length}
 use Rattle.rectangle.proofs.Groups.{in-row, row-number, row-below, in-column, column-number, column-below, row-listed, column-listed}
 
@@ -34,8 +34,8 @@ module _ (w : Rectangle) (some : 0 < w .columns) (lines rowTable columnTable : L
   r : Rectangle
   r = received w lines rowTable columnTable
 
-  same-damage : (n : ℕ) → n < count w → Scheme.damage ws rs n ≡ damage w r n
-  unfolding ws rs r
+  pub same-damage : (n : ℕ) → n < count w
+      → Scheme.damage (linesIn (count w) (w .lines)) (linesIn (count w) lines) n ≡ damage w (received w lines rowTable columnTable) n
   same-damage n h = ap₂ distance (linesIn-at (count w) (w .lines) n h) (linesIn-at (count w) lines n h)
 
   same-places : (n : ℕ) → n < count w → (p : ℕ) → Scheme.damagedAt ws rs n p ≡ damagedAt w r n p
@@ -49,6 +49,7 @@ module _ (w : Rectangle) (some : 0 < w .columns) (lines rowTable columnTable : L
       (number : (m : ℕ) → m ∈ g .members → groupOf m ≡ groupOf n)
       (member : (m : ℕ) → m < count w → groupOf m ≡ groupOf n → m ∈ g .members) where
     turn : Turn w r groupOf n later → Scheme.Alone ws rs gs n later ⊎ Scheme.Paired ws rs gs n later
+    unfolding ws rs r
     turn (inl a) = inl (record { group = g; listed = listed; holds = holds; noOther = λ m i j. a m j (number m i) })
     turn (inr p) =
         let within : p .other < count w = insides (p .other) (p .left) in
@@ -96,6 +97,21 @@ module _ (w : Rectangle) (some : 0 < w .columns) (lines rowTable columnTable : L
   turns (n ∷ later) d h t =
       (d .0, either n later (h n (inl refl)) (λ m i. h m (inr i)) (t .0), turns later (d .1) (λ m i. h m (inr i)) (t .1))
 
+  within : (n : ℕ) → n < length (linesIn (count w) (w .lines)) → n < count w
+  within n h = omega (arith, length-linesIn (count w) (w .lines))
+
+  -- the bounds in bytes are the scheme's
+  pub bounded : WithinBounds w (received w lines rowTable columnTable)
+      → Scheme.WithinBounds (linesIn (count w) (w .lines)) (linesIn (count w) lines) lineLayer
+  bounded d =
+      record {
+        lines = length-linesIn (count w) lines ∙ sym (length-linesIn (count w) (w .lines));
+        places = λ n h.
+            ap length (linesIn-at (count w) lines n (within n h))
+            ∙ length-placesAt (count w) lines (holds-length (count w) lines (d .lineBytes)) n (within n h);
+        five = λ n h. omega (arith, same-damage n (within n h), d .five n (within n h));
+      }
+
   -- damage as demand 3 words it is damage that the scheme mends
   pub mendable : (d : DamagedSo w (received w lines rowTable columnTable))
       → Scheme.Mendable (linesIn (count w) (w .lines)) (linesIn (count w) lines) lineLayer
@@ -103,11 +119,7 @@ module _ (w : Rectangle) (some : 0 < w .columns) (lines rowTable columnTable : L
   unfolding gs ws rs r
   mendable d =
       record {
-        lines = length-linesIn (count w) lines ∙ sym (length-linesIn (count w) (w .lines));
-        places = λ n h.
-            ap length (linesIn-at (count w) lines n (within n h))
-            ∙ length-placesAt (count w) lines (holds-length (count w) lines (d .lineBytes)) n (within n h);
-        five = λ n h. omega (arith, same-damage n (within n h), d .five n (within n h));
+        bounds = bounded (d .bounds);
         each = λ n h e. d .each n (within n h) (omega (arith, same-damage n (within n h)));
         noOther = λ n i.
             let o = d .noOther n i in
@@ -115,6 +127,3 @@ module _ (w : Rectangle) (some : 0 < w .columns) (lines rowTable columnTable : L
             (omega (arith, length-linesIn (count w) (w .lines)), omega (arith, same-damage n inside, o .1));
         turns = turns (d .order) (d .once) (λ m i. d .noOther m i .0) (d .turns);
       }
-    where
-      within : (n : ℕ) → n < length (linesIn (count w) (w .lines)) → n < count w
-      within n h = omega (arith, length-linesIn (count w) (w .lines))

@@ -198,8 +198,8 @@ module _ (written received : Rectangle) where
   Turns (n ∷ later) =
       (Turn (λ m. m / written .columns) n later ⊎ Turn (λ m. m % written .columns) n later) × Turns later
 
-  -- damaged so, as demand 3 asks
-  pub record DamagedSo : Type 0 where
+  -- the bounds that demand 3 sets to damage, whatever the order
+  pub record WithinBounds : Type 0 where
     -- what is handed to repair has the rows and columns written, and the lengths that refusals 5 and 6 ask for
     pub rows : received .rows ≡ written .rows
     pub columns : received .columns ≡ written .columns
@@ -208,6 +208,10 @@ module _ (written received : Rectangle) where
     -- both parity tables are undamaged, and no line has more than five damaged bits
     pub tables : EqualTables received written
     pub five : (n : ℕ) → n < count written → damage n ≤ 5
+
+  -- damaged so, as demand 3 asks
+  pub record DamagedSo : Type 0 where
+    pub bounds : WithinBounds
     -- in the order stands each line with two or more damaged bits, once, and no other line
     pub order : List ℕ
     pub once : Distinct order
@@ -237,6 +241,25 @@ pub record HypothesisMet : Type 0 where
   pub trial : Paired written received (λ m. m / written .columns) first later
   pub notInRow : Alone written received (λ m. m / written .columns) first later → ⊥
   pub notInColumn : Alone written received (λ m. m % written .columns) first later → ⊥
+
+-- ---- Document 00: "A missing caption I can cover with a spoken cue to the ushers; a caption mended into the wrong words stands there
+-- as the play."
+-- a line with another mark than 4 is the line written (a mark left out would be a 0); one with mark 4 is as found, spare bits 0, and
+-- has two or more damaged bits; and answer 12, which says that some line is wrong, is never given
+pub record NoneWrong (written received : Rectangle) (given : StoreRepaired) : Type 0 where
+  pub answers : (given .answer ≡ 0) ⊎ (given .answer ≡ 11)
+  pub asWritten : (n : ℕ) → n < count written → (getD (given .marks) n 0 ≡ 4 → ⊥)
+      → bytesAt (given .lines) n ≡ bytesAt (written .lines) n
+  pub asFound : (n : ℕ) → n < count written → getD (given .marks) n 0 ≡ 4
+      → bytesAt (given .lines) n ≡ lineOf (placesAt (received .lines) n)
+  pub damaged : (n : ℕ) → n < count written → getD (given .marks) n 0 ≡ 4 → 2 ≤ damage written received n
+
+-- within the bounds, and whatever the order
+abbrev pub NoWrongLine : Type 0
+NoWrongLine =
+    (written received : Rectangle) → Written written → WithinBounds written received → (out marks : List ℕ)
+    → holds (count received) out ≡ true → length marks ≡ count received
+    → NoneWrong written received (repairOf received out marks)
 
 -- ---- Demand 3: "No two different rectangles written, each damaged so in its own way, look alike in lines and tables."
 abbrev pub NotAlike : Type 0

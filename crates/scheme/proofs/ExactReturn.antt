@@ -4,20 +4,18 @@ use mathlib.Core.Logic.{_⊎_, inl, inr}
 use mathlib.Core.Bool.{Bool, true, false, false≢true}
 use mathlib.Core.List.{List, [], _∷_}
 use Prim.Native.Nat.{ℕ}
-use borrow.Author.Tests.{eq-eqb}
 use lib.ListN.{length, length-map, List·getD-map}
 use lib.Seq.{ext-getD}
 use Rattle.gf2.specs.Word.{Word}
 use Rattle.scheme.specs.Layer.{Layer, readLine, Promises}
-use Rattle.scheme.specs.Visit.{Group, State, cellAt, lineAt, isFaulty, sum, visit}
-use Rattle.scheme.specs.Repair.{readAll, pass, faultyCount, repair, linesOf, agrees, answer}
+use Rattle.scheme.specs.Visit.{Group, State, cellAt, lineAt, isFaulty, visit}
+use Rattle.scheme.specs.Repair.{readAll, pass, faultyCount, repair, linesOf}
 use Rattle.scheme.specs.Demand3.{_∈_, RisingGroups, wordAt, Written, Alone, Paired, Turns, Mendable, Returned}
-use Rattle.scheme.proofs.Words.{isZero-self}
-use Rattle.scheme.proofs.Sums.{sum-ext}
-use Rattle.scheme.proofs.Grows.{grows-length, none-counted, none-found}
-use Rattle.scheme.proofs.Passes.{passes-grow, passes-end, idle-visits}
-use Rattle.scheme.proofs.Stays.{readAll-length}
-use Rattle.scheme.proofs.Faithful.{Right, whole, hurt, Faithful, right-line, passes-faithful, reading-faithful}
+use Rattle.scheme.proofs.Grows.{none-counted, none-found}
+use Rattle.scheme.proofs.Passes.{passes-end, idle-visits}
+use Rattle.scheme.proofs.Stays.{repair-length}
+use Rattle.scheme.proofs.Faithful.{Right, whole, hurt, Faithful}
+use Rattle.scheme.proofs.NoneWrong.{end-faithful, end-line, answers-zero}
 use Rattle.scheme.proofs.Mends.{alone-mended}
 use Rattle.scheme.proofs.Pair.{pair-mended}
 
@@ -62,7 +60,7 @@ module _
           go true e =
               idle-mends (t .group) (t .listed) n
               (λ f.
-              pair-mended layer promises gs rising written received w order mendable s faithful n later t
+              pair-mended layer promises gs rising written received w (mendable .bounds) s faithful n later t
               (λ q. absent (rw q (t .left))) f e (λ k j h. only k j (left k h)))
 
       turn : Alone written received gs n later ⊎ Paired written received gs n later → isFaulty (cellAt s n) ≡ false
@@ -86,12 +84,9 @@ module _
   end : State
   end = repair (readLine layer) gs received .cells
 
-  end-faithful : Faithful written received end
-  unfolding end repair
-  end-faithful = passes-faithful layer promises gs rising written received w order mendable _ reading
-    where
-      reading : Faithful written received (readAll (readLine layer) 0 received)
-      reading = reading-faithful layer promises gs rising written received w order mendable
+  faithful-end : Faithful written received end
+  unfolding end
+  faithful-end = end-faithful layer promises gs rising written received w (mendable .bounds)
 
   -- every line is accepted at the end
   end-accepted : (n : ℕ) → isFaulty (cellAt end n) ≡ false
@@ -105,34 +100,25 @@ module _
       go : (faultyCount end ≡ 0) ⊎ (pass (readLine layer) gs end ≡ end) → (n : ℕ) → isFaulty (cellAt end n) ≡ false
       go (inl e) = none-counted end e
       go (inr e) =
-          none-left end end-faithful (idle-visits (readLine layer) gs end e) order (mendable .turns)
-          (λ m f. listed m f (end-faithful m))
+          none-left end faithful-end (idle-visits (readLine layer) gs end e) order (mendable .turns)
+          (λ m f. listed m f (faithful-end m))
 
-  end-line : (n : ℕ) → lineAt end n ≡ wordAt written n
-  end-line n = right-line written received n (cellAt end n) (end-faithful n) (end-accepted n)
-
-  end-agrees : (fs : List Group) → ((g : Group) → g ∈ fs → g ∈ gs) → agrees fs end ≡ true
-  end-agrees [] i = refl
-  end-agrees (g ∷ fs) i =
-      let own : sum (lineAt end) (g .members) ≡ g .parity =
-      sum-ext (lineAt end) (wordAt written) (g .members) (λ n j. end-line n) ∙ sym (w .parities g (i g (inl refl))) in
-      rw (own, isZero-self (g .parity)) (end-agrees fs (λ h j. i h (inr j)))
+  line-written : (n : ℕ) → lineAt end n ≡ wordAt written n
+  unfolding end
+  line-written n = end-line layer promises gs rising written received w (mendable .bounds) n (end-accepted n)
 
   end-length : length end ≡ length written
-  unfolding end repair
-  end-length =
-      grows-length (passes-grow (readLine layer) gs (readAll (readLine layer) 0 received))
-      ∙ readAll-length (readLine layer) 0 received
-      ∙ mendable .lines
+  unfolding end
+  end-length = repair-length (readLine layer) gs received ∙ mendable .bounds .lines
 
   pub none-faulty : faultyCount (repair (readLine layer) gs received .cells) ≡ 0
   unfolding end
   none-faulty = none-found end end-accepted
 
   pub exact-return : Returned gs written (repair (readLine layer) gs received)
-  unfolding end answer
+  unfolding end
   exact-return =
       record {
-        answers = rw (eq-eqb (faultyCount end) 0 none-faulty, end-agrees gs (λ g i. i)) refl;
-        exactly = ext-getD [] (linesOf end) written (length-map end _ ∙ end-length) (λ n h. List·getD-map _ end n _ ∙ end-line n);
+        answers = answers-zero layer promises gs rising written received w (mendable .bounds) none-faulty;
+        exactly = ext-getD [] (linesOf end) written (length-map end _ ∙ end-length) (λ n h. List·getD-map _ end n _ ∙ line-written n);
       }

@@ -133,7 +133,13 @@ store-written = record { correct = zero-lines; parities = zero-parities }
     zero-parities g (inr (inr (inr (inr i)))) = absurd i
 
 store-mendable : Mendable stored received (zeroLayer 4) groups (0 ∷ 1 ∷ [])
-store-mendable = record { lines = refl; places = four-places; five = at-most-two; each = both; noOther = damaged; turns = turns }
+store-mendable =
+    record {
+      bounds = record { lines = refl; places = four-places; five = at-most-two };
+      each = both;
+      noOther = damaged;
+      turns = turns;
+    }
   where
     four-places : (n : ℕ) → n < 4 → length (wordAt received n) ≡ 4
     four-places zero h = refl

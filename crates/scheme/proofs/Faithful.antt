@@ -13,7 +13,7 @@ use Rattle.gf2.specs.Word.{Word, _⊕_, flip}
 use Rattle.scheme.specs.Layer.{Cell, Layer, readLine, ReadsAs, Promises}
 use Rattle.scheme.specs.Visit.{Group, State, cellAt, lineAt, isFaulty, faultyOf, without, sum, rebuild, rebuildOnly, settle, mismatch, tryPlaces, tryLines, triable, trial, visit}
 use Rattle.scheme.specs.Repair.{readAll, pass, passesFrom}
-use Rattle.scheme.specs.Demand3.{_∈_, RisingGroups, wordAt, Written, damage, Mendable}
+use Rattle.scheme.specs.Demand3.{_∈_, RisingGroups, wordAt, Written, damage, WithinBounds}
 use Rattle.scheme.proofs.Lists.{selected, selects}
 use Rattle.scheme.proofs.Words.{length-flip, distance-flip}
 use Rattle.scheme.proofs.Sums.{sum-ext}
@@ -47,21 +47,27 @@ module _ (written received : List Word) where
   right-line n c (whole p q) e = q
   right-line n c (hurt p q h d) e = absurd (false≢true (sym e ∙ p))
 
+  -- a faulty one is as received, with two or more damaged bits
+  pub right-faulty : (n : ℕ) (c : Cell) → Right written received n c → isFaulty c ≡ true
+      → (c .line ≡ wordAt received n) × (2 ≤ damage written received n)
+  right-faulty n c (whole p q) e = absurd (false≢true (sym p ∙ e))
+  right-faulty n c (hurt p q h d) e = (q, d)
+
 -- an accepted reading is not faulty
 pub accepted-mark : (w : Word) (c : Cell) → ReadsAs w c → isFaulty c ≡ false
 accepted-mark w c r = ne-eqb (c .mark) 4 (λ e. let z : ⊥ = omega arith in z)
 
 module _
     (layer : Layer) (promises : Promises layer) (gs : List Group) (rising : RisingGroups gs) (written received : List Word)
-    (w : Written layer gs written) (order : List ℕ) (mendable : Mendable written received layer gs order) where
+    (w : Written layer gs written) (bounds : WithinBounds written received layer) where
   -- an accepted trial of a received line gives the written one
   trial-line : (n p : ℕ) → n < length written → isFaulty (readLine layer n (flip p (wordAt received n))) ≡ false
       → readLine layer n (flip p (wordAt received n)) .line ≡ wordAt written n
   trial-line n p h e =
       go
       (promises .detects (layer .address n) (wordAt written n) (flip p (wordAt received n)) (w .correct n h)
-      (length-flip p (wordAt received n) ∙ mendable .places n h)
-      (omega (arith, distance-flip (wordAt written n) (wordAt received n) p, mendable .five n h)))
+      (length-flip p (wordAt received n) ∙ bounds .places n h)
+      (omega (arith, distance-flip (wordAt written n) (wordAt received n) p, bounds .five n h)))
     where
       go : ReadsAs (wordAt written n) (readLine layer n (flip p (wordAt received n)))
           ⊎ (readLine layer n (flip p (wordAt received n)) .mark ≡ 4)
@@ -181,20 +187,20 @@ module _
           damaged : (b : Bool) → leb (damage written received n) 1 ≡ b → Right written received n reading
           damaged true e =
               let r : ReadsAs (wordAt written n) reading =
-              promises .corrects _ (wordAt written n) found (w .correct n h) (mendable .places n h) (leb-true _ _ e) in
+              promises .corrects _ (wordAt written n) found (w .correct n h) (bounds .places n h) (leb-true _ _ e) in
               whole (accepted-mark _ _ r) (r .gives)
           damaged false e =
-              hurt (eq-eqb _ 4 q) (promises .kept _ found (mendable .places n h) q) h (leb-false _ _ e)
+              hurt (eq-eqb _ 4 q) (promises .kept _ found (bounds .places n h) q) h (leb-false _ _ e)
 
       go : (b : Bool) → ltb n (length written) ≡ b → Right written received n (cellAt (readAll (readLine layer) 0 received) n)
       go true e =
           let h : n < length written = ltb-true _ _ e in
-          rw (readAll-at (readLine layer) 0 received n (omega (arith, mendable .lines)), zero-add)
+          rw (readAll-at (readLine layer) 0 received n (omega (arith, bounds .lines)), zero-add)
           (right h
-          (promises .detects _ (wordAt written n) found (w .correct n h) (mendable .places n h)
-          (omega (arith, mendable .five n h))))
+          (promises .detects _ (wordAt written n) found (w .correct n h) (bounds .places n h)
+          (omega (arith, bounds .five n h))))
       go false e =
           let past : length (readAll (readLine layer) 0 received) ≤ n =
-          omega (arith, readAll-length (readLine layer) 0 received, mendable .lines, ltb-false n (length written) e) in
+          omega (arith, readAll-length (readLine layer) 0 received, bounds .lines, ltb-false n (length written) e) in
           rw (List·getD-eq-default (readAll (readLine layer) 0 received) _ past)
           (whole refl (sym (List·getD-eq-default written [] (ltb-false _ _ e))))

@@ -1,5 +1,5 @@
 -- Laws of the SuDoku steps, over any list of groups: accepted lines stay (Stays), the passes (Passes), demand 3 (ExactReturn,
--- NotAlike), and what these rest on.
+-- NotAlike), no line mended into another (NoneWrong), and what these rest on.
 pub mod Case
 pub mod Lists
 pub mod Words
@@ -12,6 +12,7 @@ pub mod Stays
 pub mod Width
 pub mod Marking
 pub mod Faithful
+pub mod NoneWrong
 pub mod Mends
 pub mod Pair
 pub mod ExactReturn

@@ -13,7 +13,7 @@ use Rattle.gf2.specs.Word.{Word, _⊻_, _⊕_, weight, distance, flip}
 use Rattle.gf2.proofs.Xor.{xor-comm}
 use Rattle.scheme.specs.Layer.{Layer, readLine, Promises}
 use Rattle.scheme.specs.Visit.{Group, State, cellAt, lineAt, isFaulty, faultyOf, without, sum, mismatch, triable, visit}
-use Rattle.scheme.specs.Demand3.{_∈_, Rising, RisingGroups, wordAt, Written, Paired, Mendable}
+use Rattle.scheme.specs.Demand3.{_∈_, Rising, RisingGroups, wordAt, Written, Paired, WithinBounds}
 use Rattle.scheme.proofs.Lists.{selected, selects, rising-select, at-least-two}
 use Rattle.scheme.proofs.Words.{weight-xor, place-xor, place-light, distance-self, distance-mend, length-flip, length-setPlaces, in-setPlaces}
 use Rattle.scheme.proofs.Sums.{sum-xor, sum-light, sum-split}
@@ -60,7 +60,7 @@ in-nonempty n (m ∷ ns) i = omega arith
 
 module _
     (layer : Layer) (promises : Promises layer) (gs : List Group) (rising : RisingGroups gs) (written received : List Word)
-    (w : Written layer gs written) (order : List ℕ) (mendable : Mendable written received layer gs order)
+    (w : Written layer gs written) (bounds : WithinBounds written received layer)
     (s : State) (faithful : Faithful written received s) (n : ℕ) (later : List ℕ) (pair : Paired written received gs n later)
     (differ : n ≡ pair .other → ⊥) (faulty : isFaulty (cellAt s n) ≡ true)
     (faultyOther : isFaulty (cellAt s (pair .other)) ≡ true)
@@ -142,11 +142,11 @@ module _
   accepted : isFaulty (readLine layer n (flip p (lineAt s n))) ≡ false
   accepted =
       let long : length (wordAt written n) ≡ length (wordAt received n) =
-      promises .sized _ _ (w .correct n inside) ∙ sym (mendable .places n inside) in
+      promises .sized _ _ (w .correct n inside) ∙ sym (bounds .places n inside) in
       rw (found n faulty)
       (accepted-mark (wordAt written n) _
       (promises .corrects (layer .address n) (wordAt written n) (flip p (wordAt received n)) (w .correct n inside)
-      (length-flip p (wordAt received n) ∙ mendable .places n inside)
+      (length-flip p (wordAt received n) ∙ bounds .places n inside)
       (omega (arith, two, distance-mend (wordAt written n) (wordAt received n) p long hurtAt))))
 
   pub pair-mended : isFaulty (cellAt (visit (readLine layer) (pair .group) s) n) ≡ false

@@ -7,7 +7,7 @@ use Prim.Native.Nat.{ℕ, _≤_, _<_}
 use lib.ListN.{length, getD}
 use Rattle.gf2.specs.Word.{Word, _⊕_, distance}
 use Rattle.scheme.specs.Layer.{Layer, CorrectLine}
-use Rattle.scheme.specs.Visit.{Group, sum}
+use Rattle.scheme.specs.Visit.{Group, cellAt, lineAt, sum}
 use Rattle.scheme.specs.Repair.{Repaired, linesOf, answer}
 
 infix 40 _∈_
@@ -71,11 +71,15 @@ module _ (written received : List Word) where
   Turns gs [] = Unit {0}
   Turns gs (n ∷ later) = (n ∈ later → ⊥) × (Alone gs n later ⊎ Paired gs n later) × Turns gs later
 
-  -- no line has more than five damaged bits; in the order stands each line with two or more, and no other
-  pub record Mendable (layer : Layer) (gs : List Group) (order : List ℕ) : Type 0 where
+  -- as many lines as written, all with their places, and none with more than five damaged bits
+  pub record WithinBounds (layer : Layer) : Type 0 where
     pub lines : length received ≡ length written
     pub places : (n : ℕ) → n < length written → length (wordAt received n) ≡ layer .width
     pub five : (n : ℕ) → n < length written → damage n ≤ 5
+
+  -- within these bounds; in the order stands each line with two or more damaged bits, and no other
+  pub record Mendable (layer : Layer) (gs : List Group) (order : List ℕ) : Type 0 where
+    pub bounds : WithinBounds layer
     pub each : (n : ℕ) → n < length written → 2 ≤ damage n → n ∈ order
     pub noOther : (n : ℕ) → n ∈ order → (n < length written) × (2 ≤ damage n)
     pub turns : Turns gs order
@@ -84,3 +88,11 @@ module _ (written received : List Word) where
 pub record Returned (gs : List Group) (written : List Word) (repaired : Repaired) : Type 0 where
   pub answers : answer gs (repaired .cells) ≡ 0
   pub exactly : linesOf (repaired .cells) ≡ written
+
+-- no line mended into another: one that is not given up is the line written; one that is stands as received, and had two or more
+-- damaged bits; and answer 12 is never given
+pub record NoneWrong (gs : List Group) (written received : List Word) (repaired : Repaired) : Type 0 where
+  pub answers : (answer gs (repaired .cells) ≡ 0) ⊎ (answer gs (repaired .cells) ≡ 11)
+  pub asWritten : (n : ℕ) → (cellAt (repaired .cells) n .mark ≡ 4 → ⊥) → lineAt (repaired .cells) n ≡ wordAt written n
+  pub asReceived : (n : ℕ) → cellAt (repaired .cells) n .mark ≡ 4 → lineAt (repaired .cells) n ≡ wordAt received n
+  pub damaged : (n : ℕ) → cellAt (repaired .cells) n .mark ≡ 4 → 2 ≤ damage written received n
