@@ -9,7 +9,7 @@ use lib.ListN.{length, getD}
 use Rattle.scheme.specs.Layer.{readLine}
 use Rattle.scheme.specs.Visit.{Group, State}
 use Rattle.scheme.specs.Repair.{faultyCount, agrees, answer, repair, marksOf}
-use Rattle.scheme.specs.Marks.{MarksOf}
+use Rattle.scheme.specs.Marks.{LineMarks}
 use Rattle.scheme.proofs.Marking.{repair-marks}
 use Rattle.rectangle.specs.Store.{lineLayer, linesIn, groups}
 use Rattle.rectangle.specs.Refusals.{unless, sidesFit, holds, tablesFit, parityCorrect, every, repairRefusal}
@@ -75,7 +75,7 @@ module _ (rows columns : ℕ) (lines rowTable columnTable out marks : List ℕ) 
   handed =
       let gs = groups rows columns rowTable columnTable in
       let found = linesIn (rows * columns) lines in
-      let given : MarksOf (length found) (marksOf (repair (readLine lineLayer) gs found .cells)) = repair-marks lineLayer kept gs found in
+      let given : LineMarks (length found) (marksOf (repair (readLine lineLayer) gs found .cells)) = repair-marks lineLayer kept gs found in
       over (repair-answers gs (repair (readLine lineLayer) gs found .cells))
       (given .each ∙ length-linesIn (rows * columns) lines)
       (given .high)
