@@ -11,5 +11,6 @@ pub mod CrcRegister
 pub mod Codeword
 pub mod ReadAlone
 pub mod Lines
+pub mod CorrectTest
 pub mod Promises
 pub mod LineLayout

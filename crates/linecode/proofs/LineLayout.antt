@@ -11,7 +11,8 @@ use Rattle.linecode.specs.Code.{codeword}
 use Rattle.linecode.specs.Entry.{written}
 use Rattle.linecode.specs.Promises.{Layout}
 use Rattle.linecode.proofs.Bytes.{length-bitsOf}
-use Rattle.linecode.proofs.Line.{data-is, places-is, bytes-is, length-places, length-lineOf, places-lineOf, lineOf-xor, length-front, places-line, crcEnd, hammingEnd, protected-place, protected-bit}
+use Rattle.linecode.proofs.Line.{data-is, places-is, bytes-is, length-places, length-lineOf, places-lineOf, lineOf-xor}
+use Rattle.linecode.proofs.Line.{length-front, places-line, crcEnd, hammingEnd, protected-place, protected-bit}
 use Rattle.linecode.proofs.Loading.{data-loaded, loaded-whole}
 use Rattle.linecode.proofs.Codeword.{length-codeword}
 

@@ -19,7 +19,7 @@ use Rattle.gf2.proofs.Same.{same-refl, same-equal}
 use Rattle.gf2.proofs.Crc.{divisible-crc}
 use Rattle.gf2.proofs.Weight.{length-flip, flip-flip, distance-flip, one-flip, OneFlip, take-flip, flip-past}
 use Rattle.linecode.specs.Places.{dataPlaces, protectedPlaces, linePlaces, bitsOf, places, lineOf}
-use Rattle.linecode.specs.Code.{protected, dataOf, accepted, withHamming, codeword, Correct, isCorrect, positions, columns, syndrome, answerTo}
+use Rattle.linecode.specs.Code.{protected, accepted, withHamming, codeword, Correct, positions, columns, syndrome, answerTo}
 use Rattle.linecode.specs.Reading.{Read, acceptedAs, faulty, afterFlip, corrected, firstLook, readAlone}
 use Rattle.linecode.specs.Entry.{written, reading}
 use Rattle.linecode.specs.Promises.{ReadsAs, Promises}
@@ -31,6 +31,7 @@ use Rattle.linecode.proofs.Line.{protected-is, data-is, places-is, plac
 use Rattle.register.proofs.Slicing.{length-generator}
 use Rattle.linecode.proofs.Codeword.{length-codeword, length-protected}
 use Rattle.linecode.proofs.Syndrome.{none-zero, none-above, none-exactly, position-named, column-position}
+use Rattle.linecode.proofs.CorrectTest.{tests}
 use Rattle.linecode.proofs.ReadAlone.{read-clean, read-flip, in-bytes}
 use Rattle.linecode.proofs.Lines.{correct-length, codeword-correct, correct-rewritten, correct-accepted, correct-syndrome, near, correct-apart, accepted-correct, correct-xor}
 
@@ -120,13 +121,6 @@ marks found = go (read-cases found)
     go : Read-cases found → (readAlone found .mark ≤ 1) ⊎ (readAlone found .mark ≡ 4)
     go (inl p) = inl (subst (λ (n : ℕ). n ≤ 1) (sym (ap (λ (r : Read). r .mark) (p .2))) (p .3))
     go (inr q) = inr (ap (λ (r : Read). r .mark) q)
-
-tests : (w : Word) → (isCorrect w ≡ true) ↔ Correct w
-unfolding isCorrect Correct
-tests w = (
-  λ (e : same w (codeword (dataOf w)) ≡ true). same-equal w (codeword (dataOf w)) (holds _ e),
-  λ (c : w ≡ codeword (dataOf w)). ap (same w) (sym c) ∙ same-refl w,
-)
 
 -- ---- one damaged place
 module _ (w : Word) (c : Correct w) where

@@ -17,6 +17,31 @@ use Rattle.linecode.specs.declared.alone.Reading.{Reading}
 use Rattle.linecode.specs.declared.hamming.Answer.{Answer}
 use Rattle.linecode.specs.declared.hamming.Answer.the-variants.{None}
 
+-- how a line's bytes and its places stand to one another
+pub record Layout : Type 0 where
+  -- a line has 553 places and 70 bytes
+  pub placeCount : linePlaces ≡ 553
+  pub byteCount : lineBytes ≡ 70
+  -- 70 bytes have all places, and a line made from places has 70 bytes
+  pub placed : (line : List ℕ) → length line ≡ 70 → length (places line) ≡ linePlaces
+  pub seventy : (w : Word) → length (lineOf w) ≡ 70
+  -- all places, made into bytes, are read from them again
+  pub back : (w : Word) → length w ≡ linePlaces → places (lineOf w) ≡ w
+  -- the exclusive or of lines with spare bits 0, byte by byte, is that of their places
+  pub added : (w v : Word) → length w ≡ length v → xorBytes (lineOf w) (lineOf v) ≡ lineOf (w ⊕ v)
+  -- no places, and places that are all 0, are 70 bytes of 0
+  pub none : lineOf [] ≡ replicate 70 0
+  pub blank : lineOf (zeros linePlaces) ≡ replicate 70 0
+  -- place i, below 543, is bit i mod 8 of byte i / 8
+  pub bits : (line : List ℕ) → length line ≡ 70 → (i : ℕ) → i < 543 → getD (places line) i false ≡ bit (i % 8) (getD line (i / 8) 0)
+  -- so the first 536 places are the bits of the first 67 bytes
+  pub front : (line : List ℕ) → length line ≡ 70 → take 536 (places line) ≡ bitsOf (take 67 line)
+  -- 70 bytes are loaded as they stand
+  pub whole : (s : List ℕ) → length s ≡ 70 → loaded s ≡ s
+  -- a line loaded from 64 bytes has them as its data, and a line written has the places that the code gives
+  pub loads : (payload : List ℕ) → length payload ≡ 64 → dataOf (places (loaded payload)) ≡ bitsOf payload
+  pub writes : (payload : List ℕ) → length payload ≡ 64 → places (written payload) ≡ codeword (bitsOf payload)
+
 -- a line read alone is accepted, and read as w
 pub record ReadsAs (w : Word) (r : Read) : Type 0 where
   pub gives : r .word ≡ w
@@ -54,28 +79,3 @@ pub record Promises : Type 0 where
       → T (divisible generator (data′ ++ check)) ↔ (check ≡ crc generator data′)
   -- none is answered to a syndrome of 0 and above 553, and to no other
   pub none : (s : ℕ) → (answerTo s ≡ None) ↔ ((s ≡ 0) ⊎ (553 < s))
-
--- how a line's bytes and its places stand to one another
-pub record Layout : Type 0 where
-  -- a line has 553 places and 70 bytes
-  pub placeCount : linePlaces ≡ 553
-  pub byteCount : lineBytes ≡ 70
-  -- 70 bytes have all places, and a line made from places has 70 bytes
-  pub placed : (line : List ℕ) → length line ≡ 70 → length (places line) ≡ linePlaces
-  pub seventy : (w : Word) → length (lineOf w) ≡ 70
-  -- all places, made into bytes, are read from them again
-  pub back : (w : Word) → length w ≡ linePlaces → places (lineOf w) ≡ w
-  -- the exclusive or of lines with spare bits 0, byte by byte, is that of their places
-  pub added : (w v : Word) → length w ≡ length v → xorBytes (lineOf w) (lineOf v) ≡ lineOf (w ⊕ v)
-  -- no places, and places that are all 0, are 70 bytes of 0
-  pub none : lineOf [] ≡ replicate 70 0
-  pub blank : lineOf (zeros linePlaces) ≡ replicate 70 0
-  -- place i, below 543, is bit i mod 8 of byte i / 8
-  pub bits : (line : List ℕ) → length line ≡ 70 → (i : ℕ) → i < 543 → getD (places line) i false ≡ bit (i % 8) (getD line (i / 8) 0)
-  -- so the first 536 places are the bits of the first 67 bytes
-  pub front : (line : List ℕ) → length line ≡ 70 → take 536 (places line) ≡ bitsOf (take 67 line)
-  -- 70 bytes are loaded as they stand
-  pub whole : (s : List ℕ) → length s ≡ 70 → loaded s ≡ s
-  -- a line loaded from 64 bytes has them as its data, and a line written has the places that the code gives
-  pub loads : (payload : List ℕ) → length payload ≡ 64 → dataOf (places (loaded payload)) ≡ bitsOf payload
-  pub writes : (payload : List ℕ) → length payload ≡ 64 → places (written payload) ≡ codeword (bitsOf payload)

@@ -43,23 +43,27 @@ module _ (line ps : List ℕ) (n j : ℕ) (s : Searching line ps n j) where
   module _ (whole : length line ≡ 70) (more : j < length ps) (p : ℕ) (p-is : p ≡ getD ps j 0) (flipped : List ℕ)
       (turned : flipped ≡ lineOf (flip p (places line))) (tried : Reading)
       (read : tried ≡ inBytes (readLine lineLayer n (places flipped))) where
-    trial-is : (c : Cell) → c .line ≡ places line → readLine lineLayer n (flip (getD ps j 0) (c .line)) ≡ readLine lineLayer n (places flipped)
+    -- the trial, read as line n
+    abbrev pub tried-as : Cell
+    tried-as = readLine lineLayer n (places flipped)
+
+    trial-is : (c : Cell) → c .line ≡ places line → readLine lineLayer n (flip (getD ps j 0) (c .line)) ≡ tried-as
     trial-is c e = ap (readLine lineLayer n) (ap₂ flip (sym p-is) e ∙ sym (places-flipped line flipped p whole turned))
 
-    tried-mark : tried .mark ≡ readLine lineLayer n (places flipped) .mark
+    tried-mark : tried .mark ≡ tried-as .mark
     tried-mark = ap (λ (r : Reading). r .mark) read
 
-    pub tried-line : tried .line ≡ lineOf (readLine lineLayer n (places flipped) .line)
+    pub tried-line : tried .line ≡ lineOf (tried-as .line)
     tried-line = ap (λ (r : Reading). r .line) read
 
-    pub tried-long : length (readLine lineLayer n (places flipped) .line) ≡ linePlaces
+    pub tried-long : length (tried-as .line) ≡ linePlaces
     tried-long =
         read-long n (places flipped)
         (ap length (places-flipped line flipped p whole turned) ∙ length-flip p (places line) ∙ length-places line whole)
 
     rest : (c : Cell) → c .line ≡ places line → tryPlaces (readLine lineLayer) n c ps
-        ≡ cond (eqb (readLine lineLayer n (places flipped) .mark) 4) (tryPlaces (readLine lineLayer) n c (drop (suc j) ps))
-        (record { line = readLine lineLayer n (places flipped) .line; mark = 2 })
+        ≡ cond (eqb (tried-as .mark) 4) (tryPlaces (readLine lineLayer) n c (drop (suc j) ps))
+        (record { line = tried-as .line; mark = 2 })
     rest c e =
         s .same c e
         ∙ ap (tryPlaces (readLine lineLayer) n c) (drop-cons ps j 0 more)
@@ -73,18 +77,18 @@ module _ (line ps : List ℕ) (n j : ℕ) (s : Searching line ps n j) where
           same = λ c e.
               rest c e
               ∙ ap
-              (λ (b : Bool). cond b (tryPlaces (readLine lineLayer) n c (drop (suc j) ps)) (record { line = readLine lineLayer n (places flipped) .line; mark = 2 }))
-              (eq-eqb (readLine lineLayer n (places flipped) .mark) 4 (sym tried-mark ∙ q))
+              (λ (b : Bool). cond b (tryPlaces (readLine lineLayer) n c (drop (suc j) ps)) (record { line = tried-as .line; mark = 2 }))
+              (eq-eqb (tried-as .mark) 4 (sym tried-mark ∙ q))
               ∙ ap (λ (k : ℕ). tryPlaces (readLine lineLayer) n c (drop k ps)) (sym (add-one j));
         }
 
     pub searching-found : (tried .mark ≡ 4 → ⊥) → (c : Cell) → c .line ≡ places line
-        → tryPlaces (readLine lineLayer) n c ps ≡ record { line = readLine lineLayer n (places flipped) .line; mark = 2 }
+        → tryPlaces (readLine lineLayer) n c ps ≡ record { line = tried-as .line; mark = 2 }
     searching-found q c e =
         rest c e
         ∙ ap
-        (λ (b : Bool). cond b (tryPlaces (readLine lineLayer) n c (drop (suc j) ps)) (record { line = readLine lineLayer n (places flipped) .line; mark = 2 }))
-        (ne-eqb (readLine lineLayer n (places flipped) .mark) 4 (λ (z : readLine lineLayer n (places flipped) .mark ≡ 4). q (tried-mark ∙ z)))
+        (λ (b : Bool). cond b (tryPlaces (readLine lineLayer) n c (drop (suc j) ps)) (record { line = tried-as .line; mark = 2 }))
+        (ne-eqb (tried-as .mark) 4 (λ (z : tried-as .mark ≡ 4). q (tried-mark ∙ z)))
 
 -- four buffers under other names
 pub four : (P : List ℕ → List ℕ → List ℕ → List ℕ → Type 0) (a b c d a′ b′ c′ d′ : List ℕ) → a ≡ a′ → b ≡ b′ → c ≡ c′ → d ≡ d′ → P a′ b′ c′ d′ → P a b c d

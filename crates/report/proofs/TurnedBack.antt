@@ -8,7 +8,7 @@ use lib.Dec.{leb}
 use lib.ListN.{length, getD}
 use Rattle.scheme.specs.Layer.{readLine}
 use Rattle.scheme.specs.Repair.{repair, marksOf}
-use Rattle.scheme.specs.Marks.{MarksOf}
+use Rattle.scheme.specs.Marks.{LineMarks}
 use Rattle.scheme.proofs.Marking.{repair-marks}
 use Rattle.rectangle.specs.Store.{lineLayer, linesIn, groups}
 use Rattle.rectangle.specs.Refusals.{unless, sidesFit, repairRefusal}
@@ -46,7 +46,7 @@ module _ (rows columns : ℕ) (lines rowTable columnTable out marks : List ℕ) 
   handed =
       let gs = groups rows columns rowTable columnTable in
       let found = linesIn (rows * columns) lines in
-      let given : MarksOf (length found) (marksOf (repair (readLine lineLayer) gs found .cells)) = repair-marks lineLayer kept gs found in
+      let given : LineMarks (length found) (marksOf (repair (readLine lineLayer) gs found .cells)) = repair-marks lineLayer kept gs found in
       over (answer-hands-over gs (repair (readLine lineLayer) gs found .cells))
       (given .each ∙ length-linesIn (rows * columns) lines)
       (given .high)

@@ -9,11 +9,11 @@ use Rattle.scheme.specs.Visit.{Group}
 use Rattle.scheme.specs.Repair.{repair, marksOf}
 
 -- as many marks as lines, each one of 0 to 4
-pub record MarksOf (lines : ℕ) (marks : List ℕ) : Type 0 where
+pub record LineMarks (lines : ℕ) (marks : List ℕ) : Type 0 where
   pub each : length marks ≡ lines
   pub high : (n : ℕ) → n < length marks → getD marks n 0 ≤ 4
 
 -- the marks that repair gives
 abbrev pub RepairMarks : Layer → Type 0
 RepairMarks layer =
-    (gs : List Group) (found : List Word) → MarksOf (length found) (marksOf (repair (readLine layer) gs found .cells))
+    (gs : List Group) (found : List Word) → LineMarks (length found) (marksOf (repair (readLine layer) gs found .cells))

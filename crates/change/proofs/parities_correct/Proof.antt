@@ -29,7 +29,8 @@ of-row columns c =
     let tested = c .before .before in
     let a = tested .before .before .before .before .args in
     sym (tested .is-correct .ensures
-    ∙ tested-as (rowGroup columns (a .row-table .now) (a .row .0)) _ (places-at (a .row-table .now) (a .row .0) _ (tested .before .row-parity .ensures)))
+    ∙ tested-as (rowGroup columns (a .row-table .now) (a .row .0)) _
+    (places-at (a .row-table .now) (a .row .0) _ (tested .before .row-parity .ensures)))
 
 of-column : (rows columns : ℕ) (c : tie.After-is-correct2)
     → let a = c .before .before .before .before .before .before .args in

@@ -94,13 +94,15 @@ returns-5 : tie.Need-returns-5
 returns-5 c =
     let a = c .before .before .before .before .before .before .before .before .before .before .before .before .args in
     let read = c .before .before .alone-at in
-    rw (← last (c .before), faulty-alone (a .lines .now) (a .n) (read .result .mark) (ap (λ (r : Reading). r .mark) (read .ensures)) (c .if5 .taken))
+    let mark = ap (λ (r : Reading). r .mark) (read .ensures) in
+    rw (← last (c .before), faulty-alone (a .lines .now) (a .n) (read .result .mark) mark (c .if5 .taken))
 
 returns-6 : tie.Need-returns-6
 returns-6 c =
     let a = c .before .before .before .before .before .before .before .before .before .before .before .before .args in
     let read = c .before .before .alone-at in
-    rw (← last (c .before), accepted-alone (a .lines .now) (a .n) (read .result .mark) (ap (λ (r : Reading). r .mark) (read .ensures)) (c .if5 .left))
+    let mark = ap (λ (r : Reading). r .mark) (read .ensures) in
+    rw (← last (c .before), accepted-alone (a .lines .now) (a .n) (read .result .mark) mark (c .if5 .left))
 
 pub refusal-spec : {M : Type 1} → statement M
 refusal-spec =

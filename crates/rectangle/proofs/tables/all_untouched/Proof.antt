@@ -62,7 +62,8 @@ loop-again c =
     let read =
     read-at _ _ _ _ (loaded .line-at .ensures) (sym (tested .is-untouched .ensures (not-false _ (c .if1 .left)))) in (
       omega arith,
-      piece-stands _ _ _ (here .inv .1) _ (loaded .line-at .ensures) (ap (λ (r : Reading). r .line) read) (ap (λ (r : Reading). r .mark) read),
+      piece-stands _ _ _ (here .inv .1) _ (loaded .line-at .ensures) (ap (λ (r : Reading). r .line) read)
+          (ap (λ (r : Reading). r .mark) read),
     )
 
 returns-2 : tie.Need-returns-2 Inv-loop μ-loop
