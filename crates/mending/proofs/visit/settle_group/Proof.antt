@@ -1,5 +1,5 @@
 -- `mending::visit::settle_group` meets its contract.
-use mathlib.Core.Path.{_≡_, sym, subst, _∙_}
+use mathlib.Core.Path.{_≡_, subst, _∙_}
 use lib.ListN.{getD}
 use Rattle.groups.specs.Lent.{Carried, numberOf}
 use Rattle.mending.proofs.Settling.{still-inside, only-inside, only-faulty, word-long, rebuilt-is, settled, unsettled}
@@ -19,7 +19,7 @@ first-faulty-requires c κs =
 -- the group has one faulty line
 one : (c : tie.Then1)
     → let a = c .before .before .before .before .before .before .before .args in getD (a .faulty .now) (numberOf (a .rows) (a .chosen .which)) 0 ≡ 1
-one c = sym (c .before .count .ensures) ∙ c .if1 .taken
+one c = omega (arith, c .before .count .ensures, c .if1 .taken)
 
 difference-requires : tie.Need-difference-requires
 difference-requires c κs = search needs
