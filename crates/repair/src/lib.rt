@@ -72,7 +72,7 @@ fn answer_after(rows: usize, columns: usize, lacks: &[u8], faulty: &[u16]) -> u3
     if groups::count_faulty(rows, faulty) != 0 {
         return 11;
     }
-    if !groups::all_agree(rows + columns, lacks) {
+    if !groups::all_agree(rows, columns, lacks) {
         return 12;
     }
     0
