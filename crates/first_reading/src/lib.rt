@@ -35,7 +35,8 @@ fn read_piece(
     count: usize,
 )
     requires table { ⌜ now table ≡ lineTable ⌝ }
-    requires inside { ⌜ (n + count ≤ length (now marks)) × (length (now marks) ≤ 262144) × (length (now found) ≡ length (now marks) * 70) × (length (now out) ≡ length (now marks) * 70) × (count ≤ 8) ⌝ }
+    requires inside { ⌜ (n + count ≤ length (now marks)) × (length (now marks) ≤ 262144)
+        × (length (now found) ≡ length (now marks) * 70) × (length (now out) ≡ length (now marks) * 70) × (count ≤ 8) ⌝ }
     ensures { λ _. ⌜ (Begun (now (out .entry)) (now (marks .entry)) (readFirst (now (found .entry)) n)
         → Begun (now (out .exit)) (now (marks .exit)) (readFirst (now (found .entry)) (n + count))) ⌝ }
 {

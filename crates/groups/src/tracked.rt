@@ -1,9 +1,9 @@
 // The line and the number that stand beside each group: its difference, that is the exclusive or of its parity line and its lines as they
-// stand, and how many of its lines are faulty. A row's are reached by its RowIndex, a column's by its ColumnIndex, and here alone is known where
-// they stand: in one buffer each, the rows' first, the columns' from number `rows` on.
+// stand, and how many of its lines are faulty. A row's are reached by its RowIndex, a column's by its ColumnIndex. Only this module knows
+// where they are kept: all differences in one buffer and all counts in another, the rows' first, the columns' from number `rows` on.
 // Public for `mending`, `first_reading` and `repair`, which have tested or made what these ask; not entry points.
 ghost use mathlib.Core.Path.{_≡_};
-ghost use Prim.Native.Nat.{suc, _+_, _-_, _*_, _≤_, _<_};
+ghost use Prim.Native.Nat.{_+_, _-_, _≤_, _<_};
 ghost use lib.ListN.{length, getD, set};
 ghost use Rattle.rectangle.specs.Store.{bytesAt, putBytes};
 ghost use Rattle.groups.specs.Lent.{numberOf, added};
@@ -19,7 +19,7 @@ pub enum Which {
 
 // Where a group stands.
 fn number(rows: usize, which: Which) -> usize
-    requires { ⌜ numberOf rows which ≤ 1000000 ⌝ }
+    requires { ⌜ numberOf rows which < 1024 ⌝ }
     ensures { λ r. ⌜ r ≡ numberOf rows which ⌝ }
 {
     match which {

@@ -2,7 +2,7 @@
 use native.Mathlib.Omega.{arith}
 use borrow.Author.Needs.{needs}
 use mathlib.Core.Path.{sym, ap}
-use Prim.Native.Nat.{_+_, _≤_}
+use Prim.Native.Nat.{_+_, _<_}
 use Rattle.groups.specs.Lent.{numberOf}
 use Rattle.groups.proofs.tracked.number.Statement.{statement}
 use Rattle.groups.proofs.tracked.number.Tie as tie
@@ -17,7 +17,7 @@ add-result : tie.Need-add-result
 add-result c =
     let start = c .before .before .before .before in
     let here = c .before .before .which2 .given in
-    let small : start .args .rows + here .0 .0 .0 ≤ 1000000 = rw (here .1) at (start .pre) in
+    let small : start .args .rows + here .0 .0 .0 < 1024 = rw (here .1) at (start .pre) in
     omega arith
 
 returns : tie.Need-returns
