@@ -32,7 +32,7 @@ pub struct Chosen {
 }
 
 // Group k in visiting order: row k, or column k - rows.
-fn nth(rows: usize, k: usize) -> Which
+pub fn nth(rows: usize, k: usize) -> Which
     ensures { λ r. ⌜ r ≡ whichOf rows k ⌝ }
 {
     if k < rows {

@@ -29,9 +29,8 @@ pub fn visit_all(
     let groups = rows + columns;
     let mut k = 0;
     while k < groups {
-        let chosen = groups::choose(rows, columns, k);
-        let which = chosen.which;
-        if tracked::count(faulty, rows, which) != 0 {
+        if tracked::count(faulty, rows, groups::nth(rows, k)) != 0 {
+            let chosen = groups::choose(rows, columns, k);
             visit::visit_group(table, out, marks, lacks, faulty, rows, columns, chosen);
         }
         k += 1;

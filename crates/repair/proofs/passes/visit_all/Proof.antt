@@ -3,9 +3,11 @@ use mathlib.Core.Path.{_≡_, refl, sym, ap, subst, _∙_}
 use mathlib.Core.Logic.{⊎-elim}
 use Prim.Native.Nat.{ℕ, _+_, _-_, _<_}
 use lib.ListN.{getD}
-use Rattle.groups.proofs.Numbers.{renumber}
+use Rattle.groups.specs.Lent.{numberOf}
+use Rattle.groups.proofs.Numbers.{which-number, renumber}
 use Rattle.groups.proofs.Rooms.{same-room}
 use Rattle.repair.proofs.Passing.{Passing, passing-start, passing-some, passing-next, passing-idle, passing-end, repass}
+use borrow.Author.Needs.{needs}
 use native.Mathlib.Omega.{arith}
 use Rattle.repair.proofs.passes.visit_all.Statement.{statement}
 use Rattle.repair.proofs.passes.visit_all.Tie as tie
@@ -23,22 +25,29 @@ add-groups c = omega (arith, c .before .before .before .before .pre .1 .room .re
 loop-holds : tie.Need-loop-holds Inv-loop μ-loop
 loop-holds c = (refl, passing-start _ _ _ _ _ _ (c .before .before .before .before .pre .1 .room))
 
-choose-requires : tie.Need-choose-requires Inv-loop μ-loop
-choose-requires c κs =
-    let rect = c .before .before .before .before .before .before .pre .1 .room .rect in
-    (rect .rowsLow, rect .rowsHigh, rect .columnsLow, rect .columnsHigh, omega (arith, c .before .loop .inv .0, c .loop-test .taken))
+nth-requires : tie.Need-nth-requires Inv-loop μ-loop
+nth-requires c κs = search needs
+
+-- the group's number is the loop's
+number : (c : tie.After-nth Inv-loop μ-loop) → numberOf (c .before .before .before .before .before .before .before .before .args .rows) (c .nth .result) ≡ c .before .before .before .loop .k
+number c = ap (numberOf (c .before .before .before .before .before .before .before .before .args .rows)) (c .nth .ensures) ∙ which-number _ _
 
 count-requires : tie.Need-count-requires Inv-loop μ-loop
 count-requires c κs =
     let rect = c .before .before .before .before .before .before .before .before .pre .1 .room .rect in
     let few : c .before .before .before .loop .k < 1024 = omega (arith, c .before .before .before .loop .inv .0, c .before .before .loop-test .taken, rect .rowsHigh, rect .columnsHigh) in
-    (subst (λ (k : ℕ). k < 1024) (sym (c .before .choose .ensures .0)) few, c .before .before .before .loop .inv .1 .room .counts)
+    (subst (λ (k : ℕ). k < 1024) (sym (number c)) few, c .before .before .before .loop .inv .1 .room .counts)
+
+choose-requires : tie.Need-choose-requires Inv-loop μ-loop
+choose-requires c κs =
+    let rect = c .before .before .before .before .before .before .before .before .before .before .pre .1 .room .rect in
+    (rect .rowsLow, rect .rowsHigh, rect .columnsLow, rect .columnsHigh, omega (arith, c .before .before .before .before .before .loop .inv .0, c .before .before .before .before .loop-test .taken))
 
 visit-group-requires : tie.Need-visit-group-requires Inv-loop μ-loop
 visit-group-requires c κs =
-    let pre = c .before .before .before .before .before .before .before .before .before .before .before .before .before .before .pre in
-    let here = c .before .before .before .before .before .before .before .before .before .loop .inv .1 in
-    let chosen = c .before .before .before .before .before .before .before .choose .ensures in (
+    let pre = c .before .before .before .before .before .before .before .before .before .before .before .before .before .before .before .pre in
+    let here = c .before .before .before .before .before .before .before .before .before .before .loop .inv .1 in
+    let chosen = c .before .before .before .before .choose .ensures in (
       pre .0,
       (
         record { room = here .room; held = passing-some _ _ _ _ _ _ _ _ _ _ _ here (pre .1 .held) },
@@ -54,19 +63,18 @@ loop-less c = omega arith
 
 loop-again : tie.Need-loop-again Inv-loop μ-loop
 loop-again c =
-    let here = c .before .before .before .before .before .loop in
-    let number = c .before .before .before .choose .ensures .0 in (
+    let here = c .before .before .before .before .before .loop in (
       here .inv .0,
       ⊎-elim
           (λ w.
-          repass _ _ _ _ _ _ _ _ _ _ _ _ _ _ _ (w .14) (w .15) (w .16) (w .17)
-          (passing-next _ _ _ _ _ _ _ _ _ _ (here .k) (here .inv .1) _ _ _ _ _ (omega (arith, here .inv .0, c .before .before .before .before .loop-test .taken)) number
-          (same-room _ _ _ _ _ _ _ _ _ _ (here .inv .1 .room) (w .5 .kept .1 .0) (w .5 .kept .1 .1 .0) (w .5 .kept .1 .1 .1 .0) (w .5 .kept .1 .1 .1 .1 .0))
-          (w .5 .ensures)))
+          repass _ _ _ _ _ _ _ _ _ _ _ _ _ _ _ (w .15) (w .16) (w .17) (w .18)
+          (passing-next _ _ _ _ _ _ _ _ _ _ (here .k) (here .inv .1) _ _ _ _ _ (omega (arith, here .inv .0, c .before .before .before .before .loop-test .taken)) (w .1 .ensures .0)
+          (same-room _ _ _ _ _ _ _ _ _ _ (here .inv .1 .room) (w .6 .kept .1 .0) (w .6 .kept .1 .1 .0) (w .6 .kept .1 .1 .1 .0) (w .6 .kept .1 .1 .1 .1 .0))
+          (w .6 .ensures)))
           (λ w.
           repass _ _ _ _ _ _ _ _ _ _ _ _ _ _ _ (w .1) (w .2) (w .3) (w .4)
           (passing-idle _ _ _ _ _ _ _ _ _ _ (here .k) (here .inv .1) (omega (arith, here .inv .0, c .before .before .before .before .loop-test .taken))
-          (sym (c .before .count .ensures ∙ ap (λ (k : ℕ). getD (here .faulty) k 0) number) ∙ w .0 .left)))
+          (sym (c .before .count .ensures ∙ ap (λ (k : ℕ). getD (here .faulty) k 0) (number (c .before .before))) ∙ w .0 .left)))
           (c .if1 .came),
     )
 
@@ -93,8 +101,9 @@ visit-all-spec =
     μ-loop
     add-groups
     loop-holds
-    choose-requires
+    nth-requires
     count-requires
+    choose-requires
     visit-group-requires
     add-k
     loop-less
