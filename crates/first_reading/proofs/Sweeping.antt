@@ -33,14 +33,15 @@ own-whole : (rows columns : ℕ) (parity : ℕ → Word) (found lacks faulty : L
 own-whole rows columns parity found lacks faulty r n difference hurt o = ap length (o .own .lack) ∙ seventy-lineOf _
 
 module _ (rows columns : ℕ) (found out₀ marks₀ lacks₀ faulty₀ : List ℕ) (r first : ℕ) (r-in : r < rows) where
-  pub sweeping-start : (line : List ℕ) → Room rows columns out₀ marks₀ lacks₀ faulty₀
+  pub sweeping-start : (line : List ℕ) (hurt : ℕ) → Room rows columns out₀ marks₀ lacks₀ faulty₀
       → ((parity : (ℕ → Word)) × ReadUpTo rows columns parity found out₀ marks₀ lacks₀ faulty₀ first) → line ≡ bytesAt lacks₀ r
-      → Sweeping rows columns found out₀ marks₀ lacks₀ faulty₀ r first out₀ marks₀ lacks₀ faulty₀ line (getD faulty₀ r 0) 0
-  sweeping-start line room some e =
+      → hurt ≡ getD faulty₀ r 0
+      → Sweeping rows columns found out₀ marks₀ lacks₀ faulty₀ r first out₀ marks₀ lacks₀ faulty₀ line hurt 0
+  sweeping-start line hurt room some e f =
       record {
         few = omega arith;
         room = room;
-        whole = own-whole rows columns (some .0) found lacks₀ faulty₀ r (first + 0) line (getD faulty₀ r 0) (kept (some .0) (some .1));
+        whole = own-whole rows columns (some .0) found lacks₀ faulty₀ r (first + 0) line hurt (kept (some .0) (some .1));
         begun = λ parity u. subst (λ (k : ℕ). Begun out₀ marks₀ (readFirst found k)) (same first) (u .begun);
         opened = kept;
       }
@@ -49,14 +50,15 @@ module _ (rows columns : ℕ) (found out₀ marks₀ lacks₀ faulty₀ : List �
       same n = omega arith
 
       kept : (parity : ℕ → Word) → ReadUpTo rows columns parity found out₀ marks₀ lacks₀ faulty₀ first
-          → RowOpen rows columns parity found lacks₀ faulty₀ r (first + 0) line (getD faulty₀ r 0)
+          → RowOpen rows columns parity found lacks₀ faulty₀ r (first + 0) line hurt
       kept parity u =
-          subst (λ (k : ℕ). RowOpen rows columns parity found lacks₀ faulty₀ r k line (getD faulty₀ r 0)) (same first)
+          subst (λ (k : ℕ). RowOpen rows columns parity found lacks₀ faulty₀ r k line hurt) (same first)
           (record {
             others = λ k h d. u .beside k h;
             own =
-                subst (λ (l : List ℕ). Beside (groupOf rows columns parity r) (readFirst found first) l (getD faulty₀ r 0)) (sym e)
-                (u .beside r (omega arith));
+                subst (λ (l : List ℕ). Beside (groupOf rows columns parity r) (readFirst found first) l hurt) (sym e)
+                (subst (λ (a : ℕ). Beside (groupOf rows columns parity r) (readFirst found first) (bytesAt lacks₀ r) a) (sym f)
+                (u .beside r (omega arith)));
           })
 
   module _ (out marks lacks faulty difference : List ℕ) (hurt c : ℕ)
@@ -103,11 +105,11 @@ module _ (rows columns : ℕ) (found out₀ marks₀ lacks₀ faulty₀ : List �
               (add columns parity found r (sweeping-piece parity u))
 
     -- the row's difference and count are put back
-    pub sweeping-end : columns ≤ c → (last : List ℕ) → last ≡ putBytes lacks r difference → (parity : ℕ → Word)
-        → ReadUpTo rows columns parity found out₀ marks₀ lacks₀ faulty₀ first
-        → ReadUpTo rows columns parity found out marks last (set faulty r hurt) (first + columns)
-    sweeping-end h last e parity u =
-        subst (λ (k : ℕ). ReadUpTo rows columns parity found out marks last (set faulty r hurt) (first + k)) end
+    pub sweeping-end : columns ≤ c → (last counts : List ℕ) → last ≡ putBytes lacks r difference → counts ≡ set faulty r hurt
+        → (parity : ℕ → Word) → ReadUpTo rows columns parity found out₀ marks₀ lacks₀ faulty₀ first
+        → ReadUpTo rows columns parity found out marks last counts (first + columns)
+    sweeping-end h last counts e f parity u =
+        subst (λ (k : ℕ). ReadUpTo rows columns parity found out marks last counts (first + k)) end
         (record { begun = sweep .begun parity u; beside = λ k i. each k i (ℕ-discrete k r) })
       where
         end : c ≡ columns
@@ -120,20 +122,20 @@ module _ (rows columns : ℕ) (found out₀ marks₀ lacks₀ faulty₀ : List �
         few = omega (arith, sweep .room .rect .rowsHigh)
 
         each : (k : ℕ) → k < rows + columns → Dec (k ≡ r)
-            → Beside (groupOf rows columns parity k) (readFirst found (first + c)) (bytesAt last k) (getD (set faulty r hurt) k 0)
+            → Beside (groupOf rows columns parity k) (readFirst found (first + c)) (bytesAt last k) (getD counts k 0)
         each k i (yes x) =
-            subst (λ (j : ℕ). Beside (groupOf rows columns parity j) (readFirst found (first + c)) (bytesAt last j) (getD (set faulty r hurt) j 0)) (sym x)
-            (subst (λ (l : List ℕ). Beside (groupOf rows columns parity r) (readFirst found (first + c)) l (getD (set faulty r hurt) r 0))
+            subst (λ (j : ℕ). Beside (groupOf rows columns parity j) (readFirst found (first + c)) (bytesAt last j) (getD counts j 0)) (sym x)
+            (subst (λ (l : List ℕ). Beside (groupOf rows columns parity r) (readFirst found (first + c)) l (getD counts r 0))
             (sym (ap (λ (b : List ℕ). bytesAt b r) e ∙ put-same lacks (sweep .room .lackBytes) r few difference _ (o .own .lack) ∙ sym (o .own .lack)))
             (subst (λ (a : ℕ). Beside (groupOf rows columns parity r) (readFirst found (first + c)) difference a)
-            (sym (getD-set-same faulty r hurt 0 (omega (arith, sweep .room .counts)))) (o .own)))
+            (sym (ap (λ (l : List ℕ). getD l r 0) f ∙ getD-set-same faulty r hurt 0 (omega (arith, sweep .room .counts)))) (o .own)))
         each k i (no x) =
-            subst (λ (l : List ℕ). Beside (groupOf rows columns parity k) (readFirst found (first + c)) l (getD (set faulty r hurt) k 0))
+            subst (λ (l : List ℕ). Beside (groupOf rows columns parity k) (readFirst found (first + c)) l (getD counts k 0))
             (sym (ap (λ (b : List ℕ). bytesAt b k) e
             ∙ put-other lacks (sweep .room .lackBytes) r few difference _ (o .own .lack) k
             (omega (arith, sweep .room .rect .rowsHigh, sweep .room .rect .columnsHigh)) x))
             (subst (λ (a : ℕ). Beside (groupOf rows columns parity k) (readFirst found (first + c)) (bytesAt lacks k) a)
-            (sym (getD-set-other faulty r k hurt 0 x)) (o .others k i x))
+            (sym (ap (λ (l : List ℕ). getD l k 0) f ∙ getD-set-other faulty r k hurt 0 x)) (o .others k i x))
 
 -- ---- all rows: r of them are read
 pub record Swept (rows columns : ℕ) (found lacks₀ faulty₀ out marks lacks faulty : List ℕ) (first r : ℕ) : Type 0 where

@@ -20,13 +20,15 @@ pub record Begun (out marks : List ℕ) (s : State) : Type 0 where
   pub marked : marks ≡ marksOf s ++ drop (length s) marks
 
 -- row r is open: what stands beside the other groups is that of the first n lines, and the row's own is carried apart
-pub record RowOpen (rows columns : ℕ) (parity : ℕ → Word) (found lacks faulty : List ℕ) (r n : ℕ) (difference : List ℕ) (hurt : ℕ) : Type 0 where
+pub record RowOpen (rows columns : ℕ) (parity : ℕ → Word) (found lacks faulty : List ℕ) (r n : ℕ) (difference : List ℕ)
+    (hurt : ℕ) : Type 0 where
   pub others : (k : ℕ) → k < rows + columns → (k ≡ r → ⊥)
       → Beside (groupOf rows columns parity k) (readFirst found n) (bytesAt lacks k) (getD faulty k 0)
   pub own : Beside (groupOf rows columns parity r) (readFirst found n) difference hurt
 
 -- some lines of row r, from line n and column c on, are read into the buffers and those before them are added
-pub record Piece (rows columns : ℕ) (parity : ℕ → Word) (found out marks lacks faulty : List ℕ) (r n c count : ℕ) (difference : List ℕ) (hurt : ℕ) : Type 0 where
+pub record Piece (rows columns : ℕ) (parity : ℕ → Word) (found out marks lacks faulty : List ℕ) (r n c count : ℕ)
+    (difference : List ℕ) (hurt : ℕ) : Type 0 where
   pub room : Room rows columns out marks lacks faulty
   pub bytes : length found ≡ rows * columns * 70
   pub listed : r < rows
@@ -38,7 +40,8 @@ pub record Piece (rows columns : ℕ) (parity : ℕ → Word) (found out marks l
 -- they are such a piece of some rectangle
 abbrev pub SomePiece : ℕ → List ℕ → List ℕ → List ℕ → List ℕ → ℕ → ℕ → ℕ → List ℕ → ℕ → Type 0
 SomePiece rows out marks lacks faulty n c count difference hurt =
-    (columns : ℕ) × (parity : (ℕ → Word)) × (found : List ℕ) × (r : ℕ) × Piece rows columns parity found out marks lacks faulty r n c count difference hurt
+    (columns : ℕ) × (parity : (ℕ → Word)) × (found : List ℕ) × (r : ℕ)
+    × Piece rows columns parity found out marks lacks faulty r n c count difference hurt
 
 -- n lines are read
 pub record ReadUpTo (rows columns : ℕ) (parity : ℕ → Word) (found out marks lacks faulty : List ℕ) (n : ℕ) : Type 0 where
@@ -48,4 +51,5 @@ pub record ReadUpTo (rows columns : ℕ) (parity : ℕ → Word) (found out mark
 -- where n lines are read before, m are read after
 abbrev pub ReadsOn : ℕ → ℕ → List ℕ → List ℕ → List ℕ → List ℕ → List ℕ → List ℕ → List ℕ → List ℕ → List ℕ → ℕ → ℕ → Type 0
 ReadsOn rows columns found out marks lacks faulty out′ marks′ lacks′ faulty′ n m =
-    (parity : ℕ → Word) → ReadUpTo rows columns parity found out marks lacks faulty n → ReadUpTo rows columns parity found out′ marks′ lacks′ faulty′ m
+    (parity : ℕ → Word) → ReadUpTo rows columns parity found out marks lacks faulty n
+    → ReadUpTo rows columns parity found out′ marks′ lacks′ faulty′ m

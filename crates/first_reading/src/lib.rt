@@ -11,8 +11,12 @@ ghost use Rattle.rectangle.specs.Store.{lineLayer, linesIn};
 ghost use Rattle.line_table.specs.Table.{lineTable};
 ghost use Rattle.groups.specs.Lent.{Room, Tracked, Carried};
 ghost use Rattle.first_reading.specs.Lent.{readFirst, Begun, RowOpen, Piece, SomePiece, ReadUpTo, ReadsOn};
+use groups::tracked;
+use groups::tracked::Which;
 use linecode::place;
 use rectangle::lines;
+use rectangle::lines::ColumnIndex;
+use rectangle::lines::RowIndex;
 
 // A row whose lines are being added: its difference, and how many of its lines are faulty. They are carried by value, since every line
 // of the row changes them.
@@ -31,7 +35,8 @@ fn read_piece(
     count: usize,
 )
     requires table { ⌜ now table ≡ lineTable ⌝ }
-    requires inside { ⌜ (n + count ≤ length (now marks)) × (length (now marks) ≤ 262144) × (length (now found) ≡ length (now marks) * 70) × (length (now out) ≡ length (now marks) * 70) × (count ≤ 8) ⌝ }
+    requires inside { ⌜ (n + count ≤ length (now marks)) × (length (now marks) ≤ 262144)
+        × (length (now found) ≡ length (now marks) * 70) × (length (now out) ≡ length (now marks) * 70) × (count ≤ 8) ⌝ }
     ensures { λ _. ⌜ (Begun (now (out .entry)) (now (marks .entry)) (readFirst (now (found .entry)) n)
         → Begun (now (out .exit)) (now (marks .exit)) (readFirst (now (found .entry)) (n + count))) ⌝ }
 {
@@ -59,7 +64,9 @@ fn add_piece(
     row: OpenRow,
 ) -> OpenRow
     requires { ⌜ SomePiece rows (now out) (now marks) (now lacks) (now faulty) n c count (row .difference) (row .faulty) ⌝ }
-    ensures { λ s. ⌜ ((columns : ℕ) (parity : ℕ → Word) (found : List ℕ) (r : ℕ) → Piece rows columns parity found (now (out .entry)) (now (marks .entry)) (now (lacks .entry)) (now (faulty .entry)) r n c count (row .difference) (row .faulty)
+    ensures { λ s. ⌜ ((columns : ℕ) (parity : ℕ → Word) (found : List ℕ) (r : ℕ)
+        → Piece rows columns parity found (now (out .entry)) (now (marks .entry)) (now (lacks .entry)) (now (faulty .entry))
+        r n c count (row .difference) (row .faulty)
         → RowOpen rows columns parity found (now (lacks .exit)) (now (faulty .exit)) r (n + count) (s .difference) (s .faulty)) ⌝ }
 {
     let mut difference = row.difference;
@@ -67,14 +74,14 @@ fn add_piece(
     let mut i = 0;
     while i < count {
         let m = n + i;
-        let k = rows + (c + i);
+        let k = c + i;
         let line = lines::line_at(out, m);
         let next = place::xor_bytes(difference, line);
         difference = next;
-        lines::add_line(lacks, k, line);
+        tracked::add_to_column(lacks, rows, ColumnIndex(k), line);
         if marks[m] == 4 {
             hurt += 1;
-            faulty[k] += 1;
+            tracked::one_more_in_column(faulty, rows, ColumnIndex(k));
         }
         i += 1;
     }
@@ -112,11 +119,14 @@ fn read_row(
     requires table { ⌜ now table ≡ lineTable ⌝ }
     requires room { ⌜ Room rows columns (now out) (now marks) (now lacks) (now faulty) ⌝ }
     requires row { ⌜ (length (now found) ≡ rows * columns * 70) × (r < rows) × (first ≡ r * columns) ⌝ }
-    requires some { ⌜ ((parity : (ℕ → Word)) × ReadUpTo rows columns parity (now found) (now out) (now marks) (now lacks) (now faulty) first) ⌝ }
-    ensures { λ _. ⌜ ReadsOn rows columns (now (found .entry)) (now (out .entry)) (now (marks .entry)) (now (lacks .entry)) (now (faulty .entry)) (now (out .exit)) (now (marks .exit)) (now (lacks .exit)) (now (faulty .exit)) first (first + columns) ⌝ }
+    requires some { ⌜ ((parity : (ℕ → Word))
+        × ReadUpTo rows columns parity (now found) (now out) (now marks) (now lacks) (now faulty) first) ⌝ }
+    ensures { λ _. ⌜ ReadsOn rows columns (now (found .entry))
+        (now (out .entry)) (now (marks .entry)) (now (lacks .entry)) (now (faulty .entry))
+        (now (out .exit)) (now (marks .exit)) (now (lacks .exit)) (now (faulty .exit)) first (first + columns) ⌝ }
 {
-    let mut difference = lines::line_at(lacks, r);
-    let mut hurt = faulty[r];
+    let mut difference = tracked::difference(lacks, rows, Which::Row(RowIndex(r)));
+    let mut hurt = tracked::count(faulty, rows, Which::Row(RowIndex(r)));
     let mut c = 0;
     while c < columns {
         let count = piece(columns - c);
@@ -132,8 +142,8 @@ fn read_row(
         hurt = next.faulty;
         c += count;
     }
-    lines::put_line(lacks, r, difference);
-    faulty[r] = hurt;
+    tracked::put_row_difference(lacks, RowIndex(r), difference);
+    tracked::put_row_count(faulty, RowIndex(r), hurt);
 }
 
 // All rows are read.
@@ -152,7 +162,8 @@ pub fn read_all(
     requires lines { ⌜ length (now found) ≡ rows * columns * 70 ⌝ }
     requires some { ⌜ ((parity : (ℕ → Word)) × Tracked rows columns parity (now lacks) (now faulty) []) ⌝ }
     ensures { λ _. ⌜ ((parity : ℕ → Word) → Tracked rows columns parity (now (lacks .entry)) (now (faulty .entry)) []
-        → Carried rows columns parity (now (out .exit)) (now (marks .exit)) (now (lacks .exit)) (now (faulty .exit)) (readAll (readLine lineLayer) 0 (linesIn (rows * columns) (now (found .entry))))) ⌝ }
+        → Carried rows columns parity (now (out .exit)) (now (marks .exit)) (now (lacks .exit)) (now (faulty .exit))
+        (readAll (readLine lineLayer) 0 (linesIn (rows * columns) (now (found .entry))))) ⌝ }
 {
     let mut first = 0;
     let mut r = 0;

@@ -1,4 +1,4 @@
--- Lines of zeros, and a change added to one of the groups' differences.
+-- Lines of zeros, and one of the groups' differences put anew.
 use mathlib.Core.Path.{_≡_, refl, sym, ap, _∙_}
 use mathlib.Core.Bool.{Bool, true, false, and-eq-true-iff}
 use mathlib.Core.List.{List, [], _∷_}
@@ -9,7 +9,7 @@ use borrow.Author.Tests.{eqb-true}
 use lib.Dec.{eqb}
 use lib.ListN.{length, getD, replicate, getD-replicate, length-replicate}
 use lib.Seq.{ext-getD}
-use Rattle.gf2.specs.Word.{Word, _⊕_, zeros, isZero}
+use Rattle.gf2.specs.Word.{Word, zeros, isZero}
 use Rattle.linecode.specs.Places.{linePlaces, lineBytes, places, lineOf}
 use Rattle.linecode.specs.Code.{upFrom}
 use Rattle.scheme.specs.Visit.{setPlaces}
@@ -17,7 +17,7 @@ use Rattle.rectangle.specs.Store.{bytesAt, putBytes, putLine}
 use Rattle.rectangle.specs.Refusals.{every}
 use Rattle.rectangle.proofs.Buffer.{length-putLine, bytesAt-put, bytesAt-other}
 use Rattle.rectangle.proofs.Spare.{bytes-is, seventy-lineOf, places-lineOf, zero-line}
-use Rattle.groups.specs.Lent.{allZero, added}
+use Rattle.groups.specs.Lent.{allZero}
 
 -- ---- a line of zeros
 zero-places : places (replicate 70 0) ≡ zeros linePlaces
@@ -89,7 +89,7 @@ zero-lineOf w e = equal (allZero (lineOf w)) (isZero w) there back
     equal false true f g = g refl
     equal false false f g = refl
 
--- ---- a change added to line k of 1024
+-- ---- line k of 1024 put anew
 module _ (lacks : List ℕ) (whole : length lacks ≡ 71680) (k : ℕ) (inside : k < 1024) where
   bytes : length lacks ≡ 1024 * lineBytes
   bytes = whole ∙ ap (λ (n : ℕ). 1024 * n) (sym bytes-is)
@@ -108,16 +108,3 @@ module _ (lacks : List ℕ) (whole : length lacks ≡ 71680) (k : ℕ) (inside :
 
     pub put-other : (m : ℕ) → m < 1024 → (m ≡ k → ⊥) → bytesAt (putBytes lacks k line) m ≡ bytesAt lacks m
     put-other m h d = ap (λ (b : List ℕ). bytesAt b m) put-is ∙ bytesAt-other 1024 lacks bytes k inside w m h d
-
-  module _ (change : List ℕ) where
-    pub added-length : length (added lacks k change) ≡ 71680
-    unfolding added
-    added-length = put-length _ _ refl
-
-    pub added-same : bytesAt (added lacks k change) k ≡ lineOf (places (bytesAt lacks k) ⊕ places change)
-    unfolding added
-    added-same = put-same _ _ refl
-
-    pub added-other : (m : ℕ) → m < 1024 → (m ≡ k → ⊥) → bytesAt (added lacks k change) m ≡ bytesAt lacks m
-    unfolding added
-    added-other m h d = put-other _ _ refl m h d

@@ -11,7 +11,8 @@ use lib.Dec.{eqb}
 use lib.ListN.{length}
 use Rattle.gf2.specs.Word.{Word, _⊕_}
 use Rattle.gf2.proofs.Xor.{xor-comm, xor-assoc, length-xor-same}
-use Rattle.linecode.specs.Places.{linePlaces, places, lineOf}
+use Rattle.linecode.specs.Places.{linePlaces, places, lineOf, xorBytes}
+use Rattle.linecode.proofs.Line.{lineOf-xor}
 use Rattle.scheme.specs.Layer.{Cell}
 use Rattle.scheme.specs.Visit.{Group, State, cellAt, lineAt, isFaulty, select, faultyOf, without, sum}
 use Rattle.scheme.specs.Demand3.{_∈_, Rising}
@@ -24,6 +25,17 @@ use Rattle.groups.specs.Lent.{Beside}
 abbrev pub one-if : Bool → ℕ
 one-if true = 1
 one-if false = 0
+
+-- a difference has its spare bits 0, so that the exclusive or of its bytes and a line's needs no clearing
+pub clean-sum : (g : Group) (s : State) (line : List ℕ) (count : ℕ) → Beside g s line count → (w : Word) → length w ≡ linePlaces
+    → xorBytes line (lineOf w) ≡ lineOf (places line ⊕ w)
+clean-sum g s line count b w e =
+    ap (λ (l : List ℕ). xorBytes l (lineOf w)) (b .lack)
+    ∙ lineOf-xor v w (b .long ∙ sym e)
+    ∙ ap (λ (x : Word). lineOf (x ⊕ w)) (sym (ap places (b .lack) ∙ places-lineOf v (b .long)))
+  where
+    v : Word
+    v = sum (lineAt s) (g .members) ⊕ g .parity
 
 select-ext : (f g : ℕ → Bool) (ns : List ℕ) → ((n : ℕ) → n ∈ ns → f n ≡ g n) → select f ns ≡ select g ns
 select-ext f g [] h = refl

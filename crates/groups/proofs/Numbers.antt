@@ -13,7 +13,32 @@ use Rattle.scheme.specs.Demand3.{_∈_, Rising}
 use Rattle.rectangle.specs.Store.{row, column}
 use Rattle.rectangle.proofs.Groups.{in-row, row-number, row-inside, row-below, in-column, column-number, column-inside, rising-row, rising-column}
 use Rattle.rectangle.proofs.Stride.{length-stride}
-use Rattle.groups.specs.Lent.{membersOf, Numbered}
+use Rattle.groups.specs.Lent.{whichOf, numberOf, membersOf, Numbered}
+use Rattle.groups.specs.declared.tracked.Which.{Which}
+use Rattle.groups.specs.declared.tracked.Which.the-variants.{Row, Column}
+use Rattle.rectangle.specs.declared.lines.RowIndex.{RowIndex}
+use Rattle.rectangle.specs.declared.lines.ColumnIndex.{ColumnIndex}
+
+-- ---- group k as a row or a column
+module _ (rows k : ℕ) where
+  pub which-number : numberOf rows (whichOf rows k) ≡ k
+  unfolding whichOf
+  which-number = go (ltb k rows) refl
+    where
+      go : (b : Bool) → ltb k rows ≡ b → numberOf rows (cond b (Row (record { 0 = k })) (Column (record { 0 = k - rows }))) ≡ k
+      go true e = refl
+      go false e = let low : rows ≤ k = ltb-false k rows e in omega arith
+
+  pub which-row : (r : RowIndex) → whichOf rows k ≡ Row r → (r .0 ≡ k) × (k < rows)
+  unfolding whichOf
+  which-row r q = (sym (ap (numberOf rows) q) ∙ which-number, go (ltb k rows) refl q)
+    where
+      go : (b : Bool) → ltb k rows ≡ b → cond b (Row (record { 0 = k })) (Column (record { 0 = k - rows })) ≡ Row r → k < rows
+      go true e p = ltb-true k rows e
+      go false e p = let z : _≡_ {A = ℕ} 0 1 = cc in omega arith
+
+  pub which-column : (c : ColumnIndex) → whichOf rows k ≡ Column c → rows + c .0 ≡ k
+  which-column c q = sym (ap (numberOf rows) q) ∙ which-number
 
 pub past : (rows c : ℕ) → rows + c - rows ≡ c
 past rows c = omega arith
@@ -98,12 +123,12 @@ module _ (rows columns : ℕ) (rl : 2 ≤ rows) (rh : rows ≤ 512) (cl : 2 ≤ 
             };
       }
 
-  pub column-numbered : (k : ℕ) → rows ≤ k → k < rows + columns → Numbered rows columns k (k - rows) columns rows
+  pub column-numbered : (c : ℕ) → c < columns → Numbered rows columns (rows + c) c columns rows
   unfolding column
-  column-numbered k l h =
+  column-numbered c h =
       record {
-        listed = h;
-        lines = sym (ap (membersOf rows columns) back ∙ column-of rows columns (k - rows));
+        listed = omega arith;
+        lines = sym (column-of rows columns c);
         inside =
             record {
               some = omega arith;
@@ -112,16 +137,11 @@ module _ (rows columns : ℕ) (rl : 2 ≤ rows) (rh : rows ≤ 512) (cl : 2 ≤ 
               small = omega (arith, area);
             };
       }
-    where
-      back : k ≡ rows + (k - rows)
-      back = omega arith
 
   pub any-numbered : (k : ℕ) → k < rows + columns → (first : ℕ) × (step : ℕ) × (count : ℕ) × Numbered rows columns k first step count
-  any-numbered k h = go (ltb k rows) refl
-    where
-      go : (b : Bool) → ltb k rows ≡ b → (first : ℕ) × (step : ℕ) × (count : ℕ) × Numbered rows columns k first step count
-      go true e = (k * columns, 1, columns, row-numbered k (ltb-true k rows e))
-      go false e = (k - rows, columns, rows, column-numbered k (ltb-false k rows e) h)
+  any-numbered =
+      by-number rows columns (λ k. (first : ℕ) × (step : ℕ) × (count : ℕ) × Numbered rows columns k first step count)
+      (λ r h. (r * columns, 1, columns, row-numbered r h)) (λ c h. (c, columns, rows, column-numbered c h))
 
 -- the same under another number
 pub renumber : (rows columns j k first step count : ℕ) → j ≡ k → Numbered rows columns k first step count → Numbered rows columns j first step count

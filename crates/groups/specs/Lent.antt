@@ -6,12 +6,14 @@ use Prim.Native.Nat.{ℕ, zero, suc, _+_, _-_, _*_, _≤_, _<_}
 use lib.Dec.{eqb, ltb}
 use lib.ListN.{length, getD, take}
 use Rattle.gf2.specs.Word.{Word, _⊕_}
-use Rattle.linecode.specs.Places.{linePlaces, places, lineOf}
+use Rattle.linecode.specs.Places.{linePlaces, lineOf, xorBytes}
 use Rattle.linecode.specs.Code.{upFrom}
 use Rattle.scheme.specs.Visit.{Group, State, lineAt, faultyOf, select, sum}
 use Rattle.scheme.specs.Repair.{linesOf, marksOf}
 use Rattle.rectangle.specs.Store.{bytesAt, bufferOf, putBytes, stride, row, column}
 use Rattle.rectangle.specs.Refusals.{every}
+use Rattle.groups.specs.declared.tracked.Which.{Which}
+use Rattle.groups.specs.declared.tracked.Which.the-variants.{Row, Column}
 
 -- a line buffer and a mark buffer hold the store s: its lines, spare bits 0, and their marks
 pub record Holding (out marks : List ℕ) (s : State) : Type 0 where
@@ -54,6 +56,15 @@ pub record Room (rows columns : ℕ) (out marks lacks faulty : List ℕ) : Type 
   pub rect : Rectangular rows columns out marks
   pub lackBytes : length lacks ≡ 71680
   pub counts : length faulty ≡ 1024
+
+-- group k in visiting order, the rows and then the columns: row k, or column k - rows
+unfoldable pub whichOf : ℕ → ℕ → Which
+whichOf rows k = cond (ltb k rows) (Row (record { 0 = k })) (Column (record { 0 = k - rows }))
+
+-- a group's number in this order
+abbrev pub numberOf : ℕ → Which → ℕ
+numberOf rows (Row r) = r .0
+numberOf rows (Column c) = rows + c .0
 
 -- the lines of group k in visiting order: the rows, then the columns
 unfoldable pub membersOf : ℕ → ℕ → ℕ → List ℕ
@@ -102,9 +113,9 @@ pub record Numbered (rows columns k first step count : ℕ) : Type 0 where
   pub lines : stride first step count ≡ membersOf rows columns k
   pub inside : Inside first step count (rows * columns)
 
--- line k with a change added
-unfoldable pub added : List ℕ → ℕ → List ℕ → List ℕ
-added lacks k change = putBytes lacks k (lineOf (places (bytesAt lacks k) ⊕ places change))
+-- line k with a line added, byte by byte
+abbrev pub added : List ℕ → ℕ → List ℕ → List ℕ
+added lacks k line = putBytes lacks k (xorBytes (bytesAt lacks k) line)
 
 -- the numbers of the first k groups together
 abbrev pub countTo : List ℕ → ℕ → ℕ

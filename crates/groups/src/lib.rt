@@ -1,18 +1,21 @@
-// The groups of a rectangle in visiting order, rows and then columns: their lines, and the line and the number that stand beside each:
-// the difference, that is the exclusive or of its parity line and its lines as they stand, and how many of its lines are faulty.
+// The groups of a rectangle in visiting order, rows and then columns: their lines, and what stands beside each.
 // Public for `mending` and for `repair`, which have tested or made what these ask; not entry points.
+pub mod tracked;
+
 ghost use mathlib.Core.Bool.{false};
 ghost use mathlib.Core.Path.{_≡_};
-ghost use Prim.Native.Nat.{ℕ, suc, _+_, _*_, _≤_, _<_};
+ghost use Prim.Native.Nat.{ℕ, _+_, _≤_, _<_};
 ghost use lib.ListN.{length, getD};
 ghost use Rattle.linecode.specs.Places.{places};
 ghost use Rattle.linecode.specs.Code.{upFrom};
 ghost use Rattle.scheme.specs.Visit.{setPlaces};
 ghost use Rattle.rectangle.specs.Store.{bytesAt, stride};
 ghost use Rattle.rectangle.specs.Refusals.{every};
-ghost use Rattle.groups.specs.Lent.{Inside, faultyAmong, Listed, allZero, Numbered, added, countTo};
+ghost use Rattle.groups.specs.Lent.{Inside, faultyAmong, Listed, allZero, Numbered, whichOf, numberOf, countTo};
+use crate::tracked::Which;
 use linecode::place;
-use rectangle::lines;
+use rectangle::lines::ColumnIndex;
+use rectangle::lines::RowIndex;
 
 // Places of a line, as far as six of them; the count is 7 where there are more.
 pub struct Places {
@@ -20,33 +23,44 @@ pub struct Places {
     pub at: [usize; 6],
 }
 
-// A group by its number: its first line's number, the step from one to the next, and their count.
+// A group with its lines: the first one's number, the step from one to the next, and their count.
 pub struct Chosen {
-    pub group: usize,
+    pub which: Which,
     pub first: usize,
     pub step: usize,
     pub count: usize,
 }
 
-// Group k: row k, or column k - rows.
-pub fn choose(rows: usize, columns: usize, k: usize) -> Chosen
-    requires { ⌜ (2 ≤ rows) × (rows ≤ 512) × (2 ≤ columns) × (columns ≤ 512) × (k < rows + columns) ⌝ }
-    ensures { λ r. ⌜ (r .group ≡ k) × Numbered rows columns k (r .first) (r .step) (r .count) ⌝ }
+// Group k in visiting order: row k, or column k - rows.
+pub fn nth(rows: usize, k: usize) -> Which
+    ensures { λ r. ⌜ r ≡ whichOf rows k ⌝ }
 {
     if k < rows {
-        Chosen {
-            group: k,
-            first: k * columns,
+        Which::Row(RowIndex(k))
+    } else {
+        Which::Column(ColumnIndex(k - rows))
+    }
+}
+
+// The same with its lines.
+pub fn choose(rows: usize, columns: usize, k: usize) -> Chosen
+    requires { ⌜ (2 ≤ rows) × (rows ≤ 512) × (2 ≤ columns) × (columns ≤ 512) × (k < rows + columns) ⌝ }
+    ensures { λ r. ⌜ (numberOf rows (r .which) ≡ k) × Numbered rows columns k (r .first) (r .step) (r .count) ⌝ }
+{
+    let which = nth(rows, k);
+    match which {
+        Which::Row(row) => Chosen {
+            which,
+            first: row.0 * columns,
             step: 1,
             count: columns,
-        }
-    } else {
-        Chosen {
-            group: k,
-            first: k - rows,
+        },
+        Which::Column(column) => Chosen {
+            which,
+            first: column.0,
             step: columns,
             count: rows,
-        }
+        },
     }
 }
 
@@ -69,13 +83,14 @@ pub fn first_faulty(marks: &[u8], first: usize, step: usize, count: usize) -> us
 
 // How many lines are faulty: those of the rows together.
 pub fn count_faulty(rows: usize, faulty: &[u16]) -> usize
-    requires { ⌜ (rows ≤ 512) × (rows ≤ length (now faulty)) ⌝ }
+    requires { ⌜ (rows ≤ 512) × (length (now faulty) ≡ 1024) ⌝ }
     ensures { λ r. ⌜ r ≡ countTo (now (faulty .entry)) rows ⌝ }
 {
     let mut found: usize = 0;
     let mut r = 0;
     while r < rows {
-        found += faulty[r] as usize;
+        let row = tracked::count(faulty, rows, Which::Row(RowIndex(r)));
+        found += row as usize;
         r += 1;
     }
     found
@@ -95,28 +110,20 @@ fn is_zero(line: [u8; 70]) -> bool
     true
 }
 
-// Whether the differences of the first groups are all 0.
-pub fn all_agree(groups: usize, lacks: &[u8]) -> bool
-    requires { ⌜ (groups ≤ 1024) × (length (now lacks) ≡ 71680) ⌝ }
-    ensures { λ r. ⌜ r ≡ every (λ k. allZero (bytesAt (now (lacks .entry)) k)) (upFrom 0 groups) ⌝ }
+// Whether the differences of all groups are 0.
+pub fn all_agree(rows: usize, columns: usize, lacks: &[u8]) -> bool
+    requires { ⌜ (rows ≤ 512) × (columns ≤ 512) × (length (now lacks) ≡ 71680) ⌝ }
+    ensures { λ r. ⌜ r ≡ every (λ k. allZero (bytesAt (now (lacks .entry)) k)) (upFrom 0 (rows + columns)) ⌝ }
 {
+    let groups = rows + columns;
     let mut k = 0;
     while k < groups {
-        if !is_zero(lines::line_at(lacks, k)) {
+        if !is_zero(tracked::difference(lacks, rows, nth(rows, k))) {
             return false;
         }
         k += 1;
     }
     true
-}
-
-// A change of one of its lines, added to the difference of group k.
-pub fn add(lacks: &mut [u8], k: usize, change: [u8; 70])
-    requires { ⌜ suc k * 70 ≤ length (now lacks) ⌝ }
-    ensures { λ _. ⌜ now (lacks .exit) ≡ added (now (lacks .entry)) k change ⌝ }
-{
-    let sum = place::xor_lines(lines::line_at(lacks, k), change);
-    lines::put_line(lacks, k, sum);
 }
 
 // The place after place i that may be set next: where a byte of zeros begins at i, it is passed over.

@@ -1,5 +1,5 @@
 -- A faulty line is mended: the buffers then hold the store with that line, and what stands beside its row and its column is that of it.
-use mathlib.Core.Path.{_≡_, refl, sym, ap, ap₂, _∙_, subst}
+use mathlib.Core.Path.{_≡_, sym, ap, ap₂, _∙_, subst}
 use mathlib.Core.Logic.{_⊎_, inl, inr}
 use mathlib.Core.Bool.{Bool, true, false}
 use mathlib.Core.List.{List, [], _∷_}
@@ -12,7 +12,7 @@ use lib.Seq.{getD-set-same, getD-set-other}
 use Rattle.gf2.specs.Word.{Word, _⊕_}
 use Rattle.gf2.proofs.Xor.{xor-assoc, xor-self, length-xor-same}
 use Rattle.gf2.proofs.Crc.{zeros-xor}
-use Rattle.linecode.specs.Places.{linePlaces, places, lineOf}
+use Rattle.linecode.specs.Places.{linePlaces, places, lineOf, xorBytes}
 use Rattle.scheme.specs.Layer.{Cell}
 use Rattle.scheme.specs.Visit.{State, cellAt, lineAt, isFaulty, faultyOf}
 use Rattle.scheme.specs.Demand3.{_∈_}
@@ -22,9 +22,9 @@ use Rattle.rectangle.proofs.Groups.{row-below, column-below}
 use Rattle.rectangle.proofs.Spare.{places-lineOf}
 use Rattle.groups.specs.Lent.{Holding, Room, Carried, Some, Beside, groupOf, membersOf, added}
 use Rattle.groups.proofs.Numbers.{members-rising, home-row, home-column, homes}
-use Rattle.groups.proofs.Beside.{one-if, beside-elsewhere, beside-here}
+use Rattle.groups.proofs.Beside.{one-if, clean-sum, beside-elsewhere, beside-here}
 use Rattle.groups.proofs.Held.{held-count, held-mark, held-bytes, held-put}
-use Rattle.groups.proofs.Added.{added-length, added-same, added-other}
+use Rattle.groups.proofs.Added.{put-length, put-same, put-other}
 
 -- a list with a member is not empty
 some-there : (n : ℕ) (l : List ℕ) → n ∈ l → 0 < length l
@@ -57,8 +57,15 @@ module _ (rows columns : ℕ) (out marks lacks faulty : List ℕ) (room : Room r
     pub row-counted : 0 < getD faulty (n / columns) 0
     row-counted = counted (n / columns) (omega (arith, row-listed)) (home-row rows columns some-columns n inside)
 
-    pub column-counted : 0 < getD faulty (rows + n % columns) 0
-    column-counted = counted (rows + n % columns) (omega (arith, column-listed)) (home-column rows columns some-columns n inside)
+    -- the column has it still when the row has one less
+    pub column-counted : (mid : List ℕ) → mid ≡ set faulty (n / columns) (getD faulty (n / columns) 0 - 1)
+        → 0 < getD mid (rows + n % columns) 0
+    column-counted mid e =
+        subst (λ (x : ℕ). 0 < x)
+        (sym
+        (ap (λ (l : List ℕ). getD l (rows + n % columns) 0) e
+        ∙ getD-set-other faulty (n / columns) (rows + n % columns) _ 0 (λ (x : rows + n % columns ≡ n / columns). omega (arith, row-listed))))
+        (counted (rows + n % columns) (omega (arith, column-listed)) (home-column rows columns some-columns n inside))
 
   module _ (parity : ℕ → Word) (s : State) (c : Carried rows columns parity out marks lacks faulty s) (bad : getD marks n 0 ≡ 4)
       (w : Word) (mark : ℕ) (long : length w ≡ linePlaces) (low : mark < 4) (old line change : List ℕ) (old-is : old ≡ bytesAt out n)
@@ -90,15 +97,13 @@ module _ (rows columns : ℕ) (out marks lacks faulty : List ℕ) (room : Room r
     unfolding delta
     wide = length-xor-same (lineAt s n) w (own ∙ sym long) ∙ own
 
-    delta-is : places change ≡ delta
+    delta-is : change ≡ lineOf delta
     unfolding delta
     delta-is =
-        ap places
-        (change-is
+        change-is
         ∙ ap₂ (λ (a b : Word). lineOf (a ⊕ b))
         (ap places (old-is ∙ held-bytes out marks s (c .held) n below) ∙ places-lineOf (lineAt s n) own)
-        (ap places line-is ∙ places-lineOf w long))
-        ∙ places-lineOf (lineAt s n ⊕ w) wide
+        (ap places line-is ∙ places-lineOf w long)
 
     changed : lineAt t n ≡ lineAt s n ⊕ delta
     unfolding delta cell
@@ -122,14 +127,19 @@ module _ (rows columns : ℕ) (out marks lacks faulty : List ℕ) (room : Room r
         less : a + 1 ≡ b + 0
         less = omega arith
 
+    -- a group's difference with the change added
+    sum-is : (k : ℕ) → k < rows + columns → xorBytes (bytesAt lacks k) change ≡ lineOf (places (bytesAt lacks k) ⊕ delta)
+    sum-is k h =
+        ap (xorBytes (bytesAt lacks k)) delta-is
+        ∙ clean-sum (groupOf rows columns parity k) s (bytesAt lacks k) (getD faulty k 0) (c .beside k h) delta wide
+
     -- a group that holds the line, with the change added and one taken off its number
     touched : (k : ℕ) → k < rows + columns → n ∈ membersOf rows columns k → (x : List ℕ) (a : ℕ)
-        → x ≡ lineOf (places (bytesAt lacks k) ⊕ places change) → a ≡ getD faulty k 0 - 1
+        → x ≡ lineOf (places (bytesAt lacks k) ⊕ delta) → a ≡ getD faulty k 0 - 1
         → Beside (groupOf rows columns parity k) t x a
     touched k h i x a e f =
         beside-here s t n others delta wide changed (groupOf rows columns parity k) (bytesAt lacks k) x (getD faulty k 0) a
-        (members-rising rows columns some-columns k h) i (c .beside k h)
-        (e ∙ ap (λ (v : Word). lineOf (places (bytesAt lacks k) ⊕ v)) delta-is)
+        (members-rising rows columns some-columns k h) i (c .beside k h) e
         (one-less a (getD faulty k 0) (counted (parity, s, c) bad k h i) f)
 
     R : ℕ
@@ -171,8 +181,21 @@ module _ (rows columns : ℕ) (out marks lacks faulty : List ℕ) (room : Room r
         few : C < 1024
         few = omega (arith, column-listed, room .rect .rowsHigh, room .rect .columnsHigh)
 
+        row-in : R < rows + columns
+        row-in = omega (arith, row-listed)
+
+        column-in : C < rows + columns
+        column-in = omega (arith, column-listed)
+
         mid : length lacks₁ ≡ 71680
-        mid = added-length lacks (room .lackBytes) R few-rows change
+        mid = put-length lacks (room .lackBytes) R few-rows _ _ (sum-is R row-in)
+
+        -- the column's difference is as it was when the row's has changed
+        second-is : xorBytes (bytesAt lacks₁ C) change ≡ lineOf (places (bytesAt lacks C) ⊕ delta)
+        second-is =
+            ap (λ (l : List ℕ). xorBytes l change)
+            (put-other lacks (room .lackBytes) R few-rows _ _ (sum-is R row-in) C few (λ (x : C ≡ R). apart (sym x)))
+            ∙ sum-is C column-in
 
         count-mid : length faulty₁ ≡ 1024
         count-mid = length-set faulty R (getD faulty R 0 - 1) ∙ room .counts
@@ -190,24 +213,23 @@ module _ (rows columns : ℕ) (out marks lacks faulty : List ℕ) (room : Room r
                 subst
                 (λ (j : ℕ). Beside (groupOf rows columns parity j) t (bytesAt (added lacks₁ C change) j) (getD (set faulty₁ C (getD faulty₁ C 0 - 1)) j 0))
                 (sym p)
-                (touched C (omega (arith, column-listed)) (home-column rows columns some-columns n inside) _ _
-                (added-same lacks₁ mid C few change
-                ∙ ap (λ (l : List ℕ). lineOf (places l ⊕ places change))
-                (added-other lacks (room .lackBytes) R few-rows change C few (λ (x : C ≡ R). apart (sym x))))
+                (touched C column-in (home-column rows columns some-columns n inside) _ _ (put-same lacks₁ mid C few _ _ second-is)
                 (getD-set-same faulty₁ C (getD faulty₁ C 0 - 1) 0 (omega (arith, count-mid))
                 ∙ ap (λ (x : ℕ). x - 1) (getD-set-other faulty R C (getD faulty R 0 - 1) 0 (λ (x : C ≡ R). apart (sym x)))))
             go (no d) (yes q) =
                 subst
                 (λ (j : ℕ). Beside (groupOf rows columns parity j) t (bytesAt (added lacks₁ C change) j) (getD (set faulty₁ C (getD faulty₁ C 0 - 1)) j 0))
                 (sym q)
-                (touched R (omega (arith, row-listed)) (home-row rows columns some-columns n inside) _ _
-                (added-other lacks₁ mid C few change R few-rows apart ∙ added-same lacks (room .lackBytes) R few-rows change)
+                (touched R row-in (home-row rows columns some-columns n inside) _ _
+                (put-other lacks₁ mid C few _ _ second-is R few-rows apart ∙ put-same lacks (room .lackBytes) R few-rows _ _ (sum-is R row-in))
                 (getD-set-other faulty₁ C R (getD faulty₁ C 0 - 1) 0 apart
                 ∙ getD-set-same faulty R (getD faulty R 0 - 1) 0 (omega (arith, room .counts))))
             go (no d) (no q) =
                 beside-elsewhere s t n others (groupOf rows columns parity k) _ _ absent
                 (subst (λ (l : List ℕ). Beside (groupOf rows columns parity k) s l (getD (set faulty₁ C (getD faulty₁ C 0 - 1)) k 0))
-                (sym (added-other lacks₁ mid C few change k small d ∙ added-other lacks (room .lackBytes) R few-rows change k small q))
+                (sym
+                (put-other lacks₁ mid C few _ _ second-is k small d
+                ∙ put-other lacks (room .lackBytes) R few-rows _ _ (sum-is R row-in) k small q))
                 (subst (λ (a : ℕ). Beside (groupOf rows columns parity k) s (bytesAt lacks k) a)
                 (sym (getD-set-other faulty₁ C k (getD faulty₁ C 0 - 1) 0 d ∙ getD-set-other faulty R k (getD faulty R 0 - 1) 0 q))
                 (c .beside k h)))
@@ -220,16 +242,15 @@ module _ (rows columns : ℕ) (out marks lacks faulty : List ℕ) (room : Room r
                     either (inr x) = d x
 
     -- the same with the buffers under other names
-    pub mended-as : (after mid last : List ℕ) → after ≡ putBytes out n line → mid ≡ added lacks (n / columns) change
-        → last ≡ added mid (rows + n % columns) change
-        → Carried rows columns parity after (set marks n mark) last
-        (set (set faulty (n / columns) (getD faulty (n / columns) 0 - 1)) (rows + n % columns)
-        (getD (set faulty (n / columns) (getD faulty (n / columns) 0 - 1)) (rows + n % columns) 0 - 1))
-        (set s n (record { line = w; mark = mark }))
-    mended-as after mid last e f g =
-        subst
-        (λ (x : List ℕ). Carried rows columns parity after (set marks n mark) x
-        (set (set faulty (n / columns) (getD faulty (n / columns) 0 - 1)) (rows + n % columns)
-        (getD (set faulty (n / columns) (getD faulty (n / columns) 0 - 1)) (rows + n % columns) 0 - 1))
-        (set s n (record { line = w; mark = mark })))
-        (sym (g ∙ ap (λ (x : List ℕ). added x (rows + n % columns) change) f)) (mended after (set marks n mark) e refl)
+    pub mended-as : (after afterMarks lacksMid lacksLast faultyMid faultyLast : List ℕ) → after ≡ putBytes out n line
+        → afterMarks ≡ set marks n mark
+        → lacksMid ≡ added lacks (n / columns) change → faultyMid ≡ set faulty (n / columns) (getD faulty (n / columns) 0 - 1)
+        → lacksLast ≡ added lacksMid (rows + n % columns) change
+        → faultyLast ≡ set faultyMid (rows + n % columns) (getD faultyMid (rows + n % columns) 0 - 1)
+        → Carried rows columns parity after afterMarks lacksLast faultyLast (set s n (record { line = w; mark = mark }))
+    mended-as after afterMarks lacksMid lacksLast faultyMid faultyLast e f g h i j =
+        subst (λ (x : List ℕ). Carried rows columns parity after afterMarks x faultyLast (set s n (record { line = w; mark = mark })))
+        (sym (i ∙ ap (λ (x : List ℕ). added x (rows + n % columns) change) g))
+        (subst (λ (x : List ℕ). Carried rows columns parity after afterMarks (added (added lacks (n / columns) change) (rows + n % columns) change) x (set s n (record { line = w; mark = mark })))
+        (sym (j ∙ ap (λ (x : List ℕ). set x (rows + n % columns) (getD x (rows + n % columns) 0 - 1)) h))
+        (mended after afterMarks e f))

@@ -9,14 +9,18 @@ ghost use Rattle.line_table.specs.Table.{lineTable};
 ghost use Rattle.scheme.specs.Layer.{readLine};
 ghost use Rattle.scheme.specs.Visit.{State, tryLines, settle, trial as trial·, visit};
 ghost use Rattle.rectangle.specs.Store.{lineLayer, stride};
-ghost use Rattle.groups.specs.Lent.{Ready, Carried, Makes, Numbered, groupOf};
+ghost use Rattle.groups.specs.Lent.{Ready, Carried, Makes, Numbered, numberOf, groupOf};
 use groups::Chosen;
 use groups::Places;
+use groups::tracked;
 use linecode::place;
 use rectangle::lines;
+use rectangle::lines::ColumnIndex;
+use rectangle::lines::RowIndex;
 use sweep::reading;
 
-// A faulty line is mended: the new line and its mark are written, and its row and its column learn of the change and have one faulty line less.
+// A faulty line is mended: the new line and its mark are written, and its row and its column learn of the change and have one faulty line
+// less.
 fn mend(
     out: &mut [u8],
     marks: &mut [u8],
@@ -30,19 +34,21 @@ fn mend(
 )
     requires ready { ⌜ Ready rows columns (now out) (now marks) (now lacks) (now faulty) ⌝ }
     requires faulty { ⌜ (n < rows * columns) × (getD (now marks) n 0 ≡ 4) × (mark < 4) ⌝ }
-    ensures { λ _. ⌜ ((parity : ℕ → Word) (s : State) (w : Word) → Carried rows columns parity (now (out .entry)) (now (marks .entry)) (now (lacks .entry)) (now (faulty .entry)) s
+    ensures { λ _. ⌜ ((parity : ℕ → Word) (s : State) (w : Word)
+        → Carried rows columns parity (now (out .entry)) (now (marks .entry)) (now (lacks .entry)) (now (faulty .entry)) s
         → length w ≡ linePlaces → line ≡ lineOf w
-        → Carried rows columns parity (now (out .exit)) (now (marks .exit)) (now (lacks .exit)) (now (faulty .exit)) (set s n (record { line = w; mark = mark }))) ⌝ }
+        → Carried rows columns parity (now (out .exit)) (now (marks .exit)) (now (lacks .exit)) (now (faulty .exit))
+        (set s n (record { line = w; mark = mark }))) ⌝ }
 {
     let change = place::xor_lines(lines::line_at(out, n), line);
     lines::put_line(out, n, line);
     marks[n] = mark;
     let r = n / columns;
-    let c = rows + n % columns;
-    groups::add(lacks, r, change);
-    faulty[r] -= 1;
-    groups::add(lacks, c, change);
-    faulty[c] -= 1;
+    let c = n % columns;
+    tracked::add_to_row(lacks, RowIndex(r), change);
+    tracked::one_less_in_row(faulty, RowIndex(r));
+    tracked::add_to_column(lacks, rows, ColumnIndex(c), change);
+    tracked::one_less_in_column(faulty, rows, ColumnIndex(c));
 }
 
 // Each faulty line of the group in rising order tries each place in rising order: flip it, read the line alone. The first accepted
@@ -60,8 +66,12 @@ fn trial(
 )
     requires table { ⌜ now table ≡ lineTable ⌝ }
     requires ready { ⌜ Ready rows columns (now out) (now marks) (now lacks) (now faulty) ⌝ }
-    requires group { ⌜ Numbered rows columns (chosen .group) (chosen .first) (chosen .step) (chosen .count) × (tries .count ≤ 6) × (length (tries .at) ≡ 6) ⌝ }
-    ensures { λ _. ⌜ Makes rows columns (now (out .entry)) (now (marks .entry)) (now (lacks .entry)) (now (faulty .entry)) (now (out .exit)) (now (marks .exit)) (now (lacks .exit)) (now (faulty .exit)) (λ parity s. tryLines (readLine lineLayer) (take (tries .count) (tries .at)) s (stride (chosen .first) (chosen .step) (chosen .count))) ⌝ }
+    requires group { ⌜ Numbered rows columns (numberOf rows (chosen .which)) (chosen .first) (chosen .step) (chosen .count)
+        × (tries .count ≤ 6) × (length (tries .at) ≡ 6) ⌝ }
+    ensures { λ _. ⌜ Makes rows columns (now (out .entry)) (now (marks .entry)) (now (lacks .entry)) (now (faulty .entry))
+        (now (out .exit)) (now (marks .exit)) (now (lacks .exit)) (now (faulty .exit))
+        (λ parity s. tryLines (readLine lineLayer) (take (tries .count) (tries .at)) s
+        (stride (chosen .first) (chosen .step) (chosen .count))) ⌝ }
 {
     let at = tries.at;
     let few = tries.count;
@@ -98,13 +108,16 @@ fn settle_group(
     chosen: Chosen,
 )
     requires ready { ⌜ Ready rows columns (now out) (now marks) (now lacks) (now faulty) ⌝ }
-    requires group { ⌜ Numbered rows columns (chosen .group) (chosen .first) (chosen .step) (chosen .count) ⌝ }
-    ensures { λ _. ⌜ Makes rows columns (now (out .entry)) (now (marks .entry)) (now (lacks .entry)) (now (faulty .entry)) (now (out .exit)) (now (marks .exit)) (now (lacks .exit)) (now (faulty .exit)) (λ parity. settle (groupOf rows columns parity (chosen .group))) ⌝ }
+    requires group { ⌜ Numbered rows columns (numberOf rows (chosen .which)) (chosen .first) (chosen .step) (chosen .count) ⌝ }
+    ensures { λ _. ⌜ Makes rows columns (now (out .entry)) (now (marks .entry)) (now (lacks .entry)) (now (faulty .entry))
+        (now (out .exit)) (now (marks .exit)) (now (lacks .exit)) (now (faulty .exit))
+        (λ parity. settle (groupOf rows columns parity (numberOf rows (chosen .which)))) ⌝ }
 {
-    let k = chosen.group;
-    if faulty[k] == 1 {
+    let which = chosen.which;
+    let count = tracked::count(faulty, rows, which);
+    if count == 1 {
         let n = groups::first_faulty(marks, chosen.first, chosen.step, chosen.count);
-        let lack = lines::line_at(lacks, k);
+        let lack = tracked::difference(lacks, rows, which);
         let rebuilt = place::xor_lines(lines::line_at(out, n), lack);
         mend(out, marks, lacks, faulty, rows, columns, n, rebuilt, 3);
     }
@@ -123,14 +136,16 @@ fn try_group(
 )
     requires table { ⌜ now table ≡ lineTable ⌝ }
     requires ready { ⌜ Ready rows columns (now out) (now marks) (now lacks) (now faulty) ⌝ }
-    requires group { ⌜ Numbered rows columns (chosen .group) (chosen .first) (chosen .step) (chosen .count) ⌝ }
-    ensures { λ _. ⌜ Makes rows columns (now (out .entry)) (now (marks .entry)) (now (lacks .entry)) (now (faulty .entry)) (now (out .exit)) (now (marks .exit)) (now (lacks .exit)) (now (faulty .exit)) (λ parity. trial· (readLine lineLayer) (groupOf rows columns parity (chosen .group))) ⌝ }
+    requires group { ⌜ Numbered rows columns (numberOf rows (chosen .which)) (chosen .first) (chosen .step) (chosen .count) ⌝ }
+    ensures { λ _. ⌜ Makes rows columns (now (out .entry)) (now (marks .entry)) (now (lacks .entry)) (now (faulty .entry))
+        (now (out .exit)) (now (marks .exit)) (now (lacks .exit)) (now (faulty .exit))
+        (λ parity. trial· (readLine lineLayer) (groupOf rows columns parity (numberOf rows (chosen .which)))) ⌝ }
 {
-    let k = chosen.group;
-    if faulty[k] < 2 {
+    let which = chosen.which;
+    if tracked::count(faulty, rows, which) < 2 {
         return;
     }
-    let tries = groups::set_places(lines::line_at(lacks, k));
+    let tries = groups::set_places(tracked::difference(lacks, rows, which));
     if tries.count < 1 {
         return;
     }
@@ -163,8 +178,10 @@ pub fn visit_group(
 )
     requires table { ⌜ now table ≡ lineTable ⌝ }
     requires ready { ⌜ Ready rows columns (now out) (now marks) (now lacks) (now faulty) ⌝ }
-    requires group { ⌜ Numbered rows columns (chosen .group) (chosen .first) (chosen .step) (chosen .count) ⌝ }
-    ensures { λ _. ⌜ Makes rows columns (now (out .entry)) (now (marks .entry)) (now (lacks .entry)) (now (faulty .entry)) (now (out .exit)) (now (marks .exit)) (now (lacks .exit)) (now (faulty .exit)) (λ parity. visit (readLine lineLayer) (groupOf rows columns parity (chosen .group))) ⌝ }
+    requires group { ⌜ Numbered rows columns (numberOf rows (chosen .which)) (chosen .first) (chosen .step) (chosen .count) ⌝ }
+    ensures { λ _. ⌜ Makes rows columns (now (out .entry)) (now (marks .entry)) (now (lacks .entry)) (now (faulty .entry))
+        (now (out .exit)) (now (marks .exit)) (now (lacks .exit)) (now (faulty .exit))
+        (λ parity. visit (readLine lineLayer) (groupOf rows columns parity (numberOf rows (chosen .which)))) ⌝ }
 {
     try_group(table, out, marks, lacks, faulty, rows, columns, chosen);
     settle_group(out, marks, lacks, faulty, rows, columns, chosen);

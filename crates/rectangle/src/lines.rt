@@ -93,6 +93,16 @@ pub fn add_line(sums: &mut [u8], k: usize, line: [u8; 70])
     put_line(sums, k, after);
 }
 
+// A line put into a column's sum by exclusive or, byte by byte.
+pub fn add_to_column_sum(column_sums: &mut [u8], column: ColumnIndex, line: [u8; 70])
+    requires { ⌜ suc (column .0) * 70 ≤ length (now «column_sums») ⌝ }
+    ensures { λ _. ⌜ now («column_sums» .exit)
+        ≡ putBytes (now («column_sums» .entry)) (column .0) (xorBytes (bytesAt (now («column_sums» .entry)) (column .0)) line) ⌝ }
+{
+    let c = column.0;
+    add_line(column_sums, c, line);
+}
+
 // The parity line of a row, written.
 pub fn put_row_parity(row_table: &mut [u8], row: RowIndex, line: [u8; 70])
     requires { ⌜ suc (row .0) * 70 ≤ length (now «row_table») ⌝ }

@@ -1,6 +1,7 @@
 // Making both parity tables from lines, each used as it reads alone. Document 01, "The rectangle".
+use crate::lines::ColumnIndex;
 use crate::lines::RowIndex;
-use crate::lines::add_line;
+use crate::lines::add_to_column_sum;
 use crate::lines::line_at;
 use crate::lines::put_row_parity;
 use crate::lines::read_into;
@@ -83,7 +84,7 @@ fn add_lines(
         let line = line_at(buffer, n + i);
         let next = place::xor_bytes(total, line);
         total = next;
-        add_line(column_sums, c + i, line);
+        add_to_column_sum(column_sums, ColumnIndex(c + i), line);
         i += 1;
     }
     total

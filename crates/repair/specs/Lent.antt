@@ -30,7 +30,8 @@ pub record RanPasses (rows columns : ℕ) (out marks lacks faulty out′ marks�
 -- the lines found, read and passed over, stand in the buffers with their marks; the answer and the number of passes are theirs
 pub record Finished (rows columns : ℕ) (parity : ℕ → Word) (found out marks : List ℕ) (answered passed : ℕ) : Type 0 where
   pub cells : State
-  pub ran : passesFrom (readLine lineLayer) (allGroups rows columns parity) (readAll (readLine lineLayer) 0 (linesIn (rows * columns) found))
+  pub ran : passesFrom (readLine lineLayer) (allGroups rows columns parity)
+      (readAll (readLine lineLayer) 0 (linesIn (rows * columns) found))
       ≡ record { cells = cells; passes = passed }
   pub lines : out ≡ bufferOf (linesOf cells)
   pub marked : marks ≡ marksOf cells

@@ -35,7 +35,8 @@ fn refusal(
 ) -> u32
     requires { ⌜ now table ≡ lineTable ⌝ }
     ensures { λ r. ⌜ r
-        ≡ repairRefusal rows columns (now (lines .entry)) (now («row_table» .entry)) (now («column_table» .entry)) (now (out .entry)) (now (marks .entry)) ⌝ }
+        ≡ repairRefusal rows columns (now (lines .entry)) (now («row_table» .entry)) (now («column_table» .entry))
+        (now (out .entry)) (now (marks .entry)) ⌝ }
 {
     let refused = sizes::refusal(
         rows,
@@ -72,7 +73,7 @@ fn answer_after(rows: usize, columns: usize, lacks: &[u8], faulty: &[u16]) -> u3
     if groups::count_faulty(rows, faulty) != 0 {
         return 11;
     }
-    if !groups::all_agree(rows + columns, lacks) {
+    if !groups::all_agree(rows, columns, lacks) {
         return 12;
     }
     0
@@ -89,7 +90,8 @@ fn steps(
     columns: usize,
 ) -> Repaired
     requires table { ⌜ now table ≡ lineTable ⌝ }
-    requires room { ⌜ Rectangular rows columns (now out) (now marks) × (length (now found) ≡ rows * columns * 70) × (length (now lacks) ≡ 71680) ⌝ }
+    requires room { ⌜ Rectangular rows columns (now out) (now marks) × (length (now found) ≡ rows * columns * 70)
+        × (length (now lacks) ≡ 71680) ⌝ }
     requires some { ⌜ ((parity : (ℕ → Word)) × Tracked rows columns parity (now lacks) (replicate 1024 0) []) ⌝ }
     ensures { λ r. ⌜ ((parity : ℕ → Word) → Tracked rows columns parity (now (lacks .entry)) (replicate 1024 0) []
         → Finished rows columns parity (now (found .entry)) (now (out .exit)) (now (marks .exit)) (r .answer) (r .passes)) ⌝ }
@@ -113,7 +115,8 @@ pub fn repair(
 ) -> Repaired
     ensures { λ r. ⌜ _≡_ {A = StoreRepaired}
         (record { answer = r .answer; passes = r .passes; lines = now (out .exit); marks = now (marks .exit) })
-        (repairStore rows columns (now (lines .entry)) (now («row_table» .entry)) (now («column_table» .entry)) (now (out .entry)) (now (marks .entry))) ⌝ }
+        (repairStore rows columns (now (lines .entry)) (now («row_table» .entry)) (now («column_table» .entry))
+        (now (out .entry)) (now (marks .entry))) ⌝ }
 {
     let table = line_table::lent();
     let turned_back = refusal(

@@ -8,6 +8,7 @@ ghost use Rattle.linecode.specs.Code.{upFrom};
 ghost use Rattle.rectangle.specs.Store.{placesAt, bytesAt, rowGroup, columnGroup};
 ghost use Rattle.rectangle.specs.Refusals.{every, parityCorrect};
 ghost use Rattle.line_table.specs.Table.{lineTable};
+use groups::tracked;
 use linecode::place;
 use rectangle::lines;
 use rectangle::lines::ColumnIndex;
@@ -55,12 +56,12 @@ pub fn start_rows(rows: usize, row_table: &[u8], lacks: &mut [u8])
     let mut r = 0;
     while r < rows {
         let parity = place::clear_spare(lines::row_parity(row_table, RowIndex(r)));
-        lines::put_line(lacks, r, parity);
+        tracked::put_row_difference(lacks, RowIndex(r), parity);
         r += 1;
     }
 }
 
-// The columns' differences, which stand after the rows', start as their parity lines.
+// The columns' differences start as their parity lines; the rows' stay.
 pub fn start_columns(rows: usize, columns: usize, column_table: &[u8], lacks: &mut [u8])
     requires { ⌜ (rows ≤ 512) × (columns ≤ 512) × (length (now «column_table») ≡ columns * 70) × (length (now lacks) ≡ 71680) ⌝ }
     ensures { λ _. ⌜ ((k : ℕ) → k < rows → bytesAt (now (lacks .exit)) k ≡ bytesAt (now (lacks .entry)) k)
@@ -69,7 +70,7 @@ pub fn start_columns(rows: usize, columns: usize, column_table: &[u8], lacks: &m
     let mut c = 0;
     while c < columns {
         let parity = place::clear_spare(lines::column_parity(column_table, ColumnIndex(c)));
-        lines::put_line(lacks, rows + c, parity);
+        tracked::put_column_difference(lacks, rows, ColumnIndex(c), parity);
         c += 1;
     }
 }

@@ -7,6 +7,7 @@ ghost use Rattle.rectangle.specs.Store.{lineLayer};
 ghost use Rattle.line_table.specs.Table.{lineTable};
 ghost use Rattle.groups.specs.Lent.{Ready, Makes};
 ghost use Rattle.repair.specs.Lent.{allGroups, RanPasses};
+use groups::tracked;
 use mending::visit;
 
 // All groups are visited; one without a faulty line costs a look at its count.
@@ -21,12 +22,14 @@ pub fn visit_all(
 )
     requires table { ⌜ now table ≡ lineTable ⌝ }
     requires ready { ⌜ Ready rows columns (now out) (now marks) (now lacks) (now faulty) ⌝ }
-    ensures { λ _. ⌜ Makes rows columns (now (out .entry)) (now (marks .entry)) (now (lacks .entry)) (now (faulty .entry)) (now (out .exit)) (now (marks .exit)) (now (lacks .exit)) (now (faulty .exit)) (λ parity. pass (readLine lineLayer) (allGroups rows columns parity)) ⌝ }
+    ensures { λ _. ⌜ Makes rows columns (now (out .entry)) (now (marks .entry)) (now (lacks .entry)) (now (faulty .entry))
+        (now (out .exit)) (now (marks .exit)) (now (lacks .exit)) (now (faulty .exit))
+        (λ parity. pass (readLine lineLayer) (allGroups rows columns parity)) ⌝ }
 {
     let groups = rows + columns;
     let mut k = 0;
     while k < groups {
-        if faulty[k] != 0 {
+        if tracked::count(faulty, rows, groups::nth(rows, k)) != 0 {
             let chosen = groups::choose(rows, columns, k);
             visit::visit_group(table, out, marks, lacks, faulty, rows, columns, chosen);
         }
@@ -46,7 +49,9 @@ pub fn run_passes(
 ) -> usize
     requires table { ⌜ now table ≡ lineTable ⌝ }
     requires ready { ⌜ Ready rows columns (now out) (now marks) (now lacks) (now faulty) ⌝ }
-    ensures { λ r. ⌜ RanPasses rows columns (now (out .entry)) (now (marks .entry)) (now (lacks .entry)) (now (faulty .entry)) (now (out .exit)) (now (marks .exit)) (now (lacks .exit)) (now (faulty .exit)) r ⌝ }
+    ensures { λ r. ⌜ RanPasses rows columns (now (out .entry)) (now (marks .entry)) (now (lacks .entry)) (now (faulty .entry))
+        (now (out .exit)) (now (marks .exit)) (now (lacks .exit)) (now (faulty .exit))
+        r ⌝ }
 {
     let mut passes: usize = 0;
     let mut before = groups::count_faulty(rows, faulty);

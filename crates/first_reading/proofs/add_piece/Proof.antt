@@ -1,9 +1,10 @@
 -- `first_reading::add_piece` meets its contract: after i turns i lines of the piece are added.
-use native.Mathlib.Omega.{arith}
 use mathlib.Core.Path.{sym, _∙_}
 use mathlib.Core.Logic.{⊎-elim}
-use Prim.Native.Nat.{_-_}
-use Rattle.first_reading.proofs.Adding.{Adding, adding-start, adding-place, adding-faulty, adding-other, adding-end}
+use Prim.Native.Nat.{_+_, _-_}
+use Rattle.first_reading.proofs.Adding.{Adding, Place, adding-start, adding-place, adding-faulty, adding-other, adding-end}
+use borrow.Author.Needs.{needs}
+use native.Mathlib.Omega.{arith}
 use Rattle.first_reading.proofs.add_piece.Statement.{statement}
 use Rattle.first_reading.proofs.add_piece.Tie as tie
 
@@ -17,44 +18,36 @@ abbrev μ-loop : tie.MeasureT-loop
 loop-holds : tie.Need-loop-holds Inv-loop μ-loop
 loop-holds c = adding-start _ _ _ _ _ _ _ _ _ _ (c .before .before .before .before .before .pre)
 
+-- the line of this turn lies inside the buffers, and the numbers beside it are small
+place : (c : tie.In-loop Inv-loop μ-loop)
+    → let a = c .before .before .before .before .before .before .before .args in
+    let here = c .before .loop in
+    Place (a .rows) (a .out .now) (a .marks .now) (here .faulty) (here .hurt) (a .n + here .i) (a .rows + (a .c + here .i))
+place c = adding-place _ _ _ _ _ _ _ _ _ _ _ _ _ _ _ (c .before .loop .inv) (c .loop-test .taken) (c .before .before .before .before .before .before .before .pre)
+
 add-m : tie.Need-add-m Inv-loop μ-loop
-add-m c = omega (arith, adding-place _ _ _ _ _ _ _ _ _ _ _ _ _ _ _ (c .before .loop .inv) (c .loop-test .taken) (c .before .before .before .before .before .before .before .pre) .small)
+add-m c = omega (arith, place c .small)
 
 add-k : tie.Need-add-k Inv-loop μ-loop
-add-k c = omega (arith, adding-place _ _ _ _ _ _ _ _ _ _ _ _ _ _ _ (c .before .loop .inv) (c .loop-test .taken) (c .before .before .before .before .before .before .before .pre) .group)
-
-add-k-2 : tie.Need-add-k-2 Inv-loop μ-loop
-add-k-2 c = omega (arith, adding-place _ _ _ _ _ _ _ _ _ _ _ _ _ _ _ (c .before .loop .inv) (c .loop-test .taken) (c .before .before .before .before .before .before .before .pre) .group)
+add-k c = omega (arith, place c .group)
 
 line-at-requires : tie.Need-line-at-requires Inv-loop μ-loop
-line-at-requires c κs = adding-place _ _ _ _ _ _ _ _ _ _ _ _ _ _ _ (c .before .loop .inv) (c .loop-test .taken) (c .before .before .before .before .before .before .before .pre) .line
+line-at-requires c κs = place c .line
 
 xor-bytes-requires : tie.Need-xor-bytes-requires Inv-loop μ-loop
 xor-bytes-requires c κs = tt
 
-add-line-requires : tie.Need-add-line-requires Inv-loop μ-loop
-add-line-requires c κs =
-    omega (arith, adding-place _ _ _ _ _ _ _ _ _ _ _ _ _ _ _ (c .before .before .before .before .loop .inv) (c .before .before .before .loop-test .taken) (c .before .before .before .before .before .before .before .before .before .before .pre) .group, c .before .before .before .before .loop .inv .lackBytes)
+add-to-column-requires : tie.Need-add-to-column-requires Inv-loop μ-loop
+add-to-column-requires c κs = (place (c .before .before .before) .group, c .before .before .before .before .loop .inv .lackBytes)
 
 shared-slice-read-if1 : tie.Need-shared-slice-read-if1 Inv-loop μ-loop
-shared-slice-read-if1 c = adding-place _ _ _ _ _ _ _ _ _ _ _ _ _ _ _ (c .before .before .before .before .before .before .before .before .loop .inv) (c .before .before .before .before .before .before .before .loop-test .taken) (c .before .before .before .before .before .before .before .before .before .before .before .before .before .before .pre) .mark
+shared-slice-read-if1 c = place (c .before .before .before .before .before .before .before) .mark
 
 add-hurt : tie.Need-add-hurt Inv-loop μ-loop
-add-hurt c = omega (arith, adding-place _ _ _ _ _ _ _ _ _ _ _ _ _ _ _ (c .before .before .before .before .before .before .before .before .before .loop .inv) (c .before .before .before .before .before .before .before .before .loop-test .taken) (c .before .before .before .before .before .before .before .before .before .before .before .before .before .before .before .pre) .ownFew)
+add-hurt c = omega (arith, place (c .before .before .before .before .before .before .before .before) .ownFew)
 
-mul-faulty : tie.Need-mul-faulty Inv-loop μ-loop
-mul-faulty c = omega (arith, adding-place _ _ _ _ _ _ _ _ _ _ _ _ _ _ _ (c .before .before .before .before .before .before .before .before .before .loop .inv) (c .before .before .before .before .before .before .before .before .loop-test .taken) (c .before .before .before .before .before .before .before .before .before .before .before .before .before .before .before .pre) .group)
-
-slice-read-faulty : tie.Need-slice-read-faulty Inv-loop μ-loop
-slice-read-faulty c =
-    omega (arith, adding-place _ _ _ _ _ _ _ _ _ _ _ _ _ _ _ (c .before .before .before .before .before .before .before .before .before .before .loop .inv) (c .before .before .before .before .before .before .before .before .before .loop-test .taken) (c .before .before .before .before .before .before .before .before .before .before .before .before .before .before .before .before .pre) .group, c .before .before .before .before .before .before .before .before .before .before .loop .inv .counts)
-
-add-faulty : tie.Need-add-faulty Inv-loop μ-loop
-add-faulty c = omega (arith, adding-place _ _ _ _ _ _ _ _ _ _ _ _ _ _ _ (c .before .before .before .before .before .before .before .before .before .before .loop .inv) (c .before .before .before .before .before .before .before .before .before .loop-test .taken) (c .before .before .before .before .before .before .before .before .before .before .before .before .before .before .before .before .pre) .columnFew)
-
-slice-write-faulty : tie.Need-slice-write-faulty Inv-loop μ-loop
-slice-write-faulty c =
-    omega (arith, adding-place _ _ _ _ _ _ _ _ _ _ _ _ _ _ _ (c .before .before .before .before .before .before .before .before .before .before .loop .inv) (c .before .before .before .before .before .before .before .before .before .loop-test .taken) (c .before .before .before .before .before .before .before .before .before .before .before .before .before .before .before .before .pre) .group, c .before .before .before .before .before .before .before .before .before .before .loop .inv .counts)
+one-more-in-column-requires : tie.Need-one-more-in-column-requires Inv-loop μ-loop
+one-more-in-column-requires c κs = (place (c .before .before .before .before .before .before .before .before .before) .group, c .before .before .before .before .before .before .before .before .before .before .loop .inv .counts, place (c .before .before .before .before .before .before .before .before .before) .columnFew)
 
 add-i : tie.Need-add-i Inv-loop μ-loop
 add-i c = omega arith
@@ -64,9 +57,12 @@ loop-less c = omega arith
 
 loop-again : tie.Need-loop-again Inv-loop μ-loop
 loop-again c =
+    let turn = c .before .before .before .before .before .before .before .before in
     ⊎-elim
-    (λ w. adding-faulty _ _ _ _ _ _ _ _ _ _ _ _ _ _ _ (c .before .before .before .before .before .before .before .before .before .loop .inv) (c .before .before .before .before .before .before .before .before .loop-test .taken) _ _ _ (c .before .before .before .before .before .before .before .line-at .ensures) (c .before .before .before .before .add-line .kept .0) (c .before .before .before .before .add-line .ensures) (c .before .before .before .before .before .before .xor-bytes .ensures) _ _ (w .0 .taken) (w .2) (w .3))
-    (λ w. adding-other _ _ _ _ _ _ _ _ _ _ _ _ _ _ _ (c .before .before .before .before .before .before .before .before .before .loop .inv) (c .before .before .before .before .before .before .before .before .loop-test .taken) _ _ _ (c .before .before .before .before .before .before .before .line-at .ensures) (c .before .before .before .before .add-line .kept .0) (c .before .before .before .before .add-line .ensures) (c .before .before .before .before .before .before .xor-bytes .ensures) _ _ (w .0 .left) (w .1) (w .2))
+    (λ w.
+    adding-faulty _ _ _ _ _ _ _ _ _ _ _ _ _ _ _ (turn .before .loop .inv) (turn .loop-test .taken) _ _ _ (c .before .before .before .before .before .before .before .line-at .ensures) (c .before .before .before .before .add-to-column .kept .0) (c .before .before .before .before .add-to-column .ensures) (c .before .before .before .before .before .before .xor-bytes .ensures) _ _ (w .0 .taken) (w .5 ∙ w .2 .ensures) (w .6))
+    (λ w.
+    adding-other _ _ _ _ _ _ _ _ _ _ _ _ _ _ _ (turn .before .loop .inv) (turn .loop-test .taken) _ _ _ (c .before .before .before .before .before .before .before .line-at .ensures) (c .before .before .before .before .add-to-column .kept .0) (c .before .before .before .before .add-to-column .ensures) (c .before .before .before .before .before .before .xor-bytes .ensures) _ _ (w .0 .left) (w .1) (w .2))
     (c .if1 .came)
 
 same-length : tie.Need-same-length Inv-loop μ-loop
@@ -87,16 +83,12 @@ add-piece-spec =
     loop-holds
     add-m
     add-k
-    add-k-2
     line-at-requires
     xor-bytes-requires
-    add-line-requires
+    add-to-column-requires
     shared-slice-read-if1
     add-hurt
-    mul-faulty
-    slice-read-faulty
-    add-faulty
-    slice-write-faulty
+    one-more-in-column-requires
     add-i
     loop-less
     loop-again

@@ -14,9 +14,6 @@ returns : tie.Need-returns
 returns c =
     λ parity s size tracked. answer-faulty _ _ parity _ _ s tracked size _ (c .before .count-faulty .ensures) (c .if1 .taken)
 
-add-all-agree : tie.Need-add-all-agree
-add-all-agree c = search needs
-
 all-agree-requires : tie.Need-all-agree-requires
 all-agree-requires c κs = search needs
 
@@ -31,4 +28,4 @@ returns-3 c =
 pub answer-after-spec : {M : Type 1} → statement M
 answer-after-spec =
     tie.close
-    (tie.spec count-faulty-requires returns add-all-agree all-agree-requires returns-2 returns-3)
+    (tie.spec count-faulty-requires returns all-agree-requires returns-2 returns-3)

@@ -30,13 +30,14 @@ mul-if2-2 : tie.Need-mul-if2-2
 mul-if2-2 c = omega (arith, few _ _ (sizes c .sides))
 
 returns-2 : tie.Need-returns-2
-returns-2 c = refused-out _ _ _ _ _ _ _ (sizes (c .before)) (c .if2 .taken)
+returns-2 c = refused-out _ _ _ _ _ _ _ (sizes (c .before)) (λ e. omega (arith, c .if2 .taken))
 
 mul-if3 : tie.Need-mul-if3
 mul-if3 c = omega (arith, few _ _ (sizes (c .before) .sides))
 
 returns-3 : tie.Need-returns-3
-returns-3 c = refused-marks _ _ _ _ _ _ _ (sizes (c .before .before)) (c .before .if2 .left) (c .if3 .taken)
+returns-3 c =
+    refused-marks _ _ _ _ _ _ _ (sizes (c .before .before)) (c .before .if2 .left) (λ e. omega (arith, c .if3 .taken))
 
 rows-correct-requires : tie.Need-rows-correct-requires
 rows-correct-requires c κs = (c .before .before .before .before .before .before .before .before .before .pre, sizes (c .before .before) .rowBytes)

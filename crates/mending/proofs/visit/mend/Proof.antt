@@ -1,10 +1,8 @@
 -- `mending::visit::mend` meets its contract.
-use borrow.Author.Needs.{needs}
-use native.Mathlib.Omega.{arith}
-use Prim.Native.Nat.{_+_, _-_, _/_, _%_}
-use lib.ListN.{getD, length-set}
-use lib.Seq.{getD-set-other}
+use mathlib.Core.Path.{refl, _∙_}
 use Rattle.mending.proofs.Mended.{row-listed, column-listed, row-counted, column-counted, mended-as}
+use native.Mathlib.Omega.{arith}
+use borrow.Author.Needs.{needs}
 use Rattle.mending.proofs.visit.mend.Statement.{statement}
 use Rattle.mending.proofs.visit.mend.Tie as tie
 
@@ -26,52 +24,34 @@ div-r c = search needs
 rem-c : tie.Need-rem-c
 rem-c c = search needs
 
-add-c : tie.Need-add-c
-add-c c = omega (arith, column-listed _ _ _ _ _ _ (c .before .before .before .before .before .before .before .before .before .before .before .pre .0 .room) _ (c .before .before .before .before .before .before .before .before .before .before .before .pre .1 .0))
+add-to-row-requires : tie.Need-add-to-row-requires
+add-to-row-requires c κs =
+    let pre = c .before .before .before .before .before .before .before .before .before .before .before .before .pre in
+    (omega (arith, row-listed _ _ _ _ _ _ (pre .0 .room) _ (pre .1 .0), pre .0 .room .rect .rowsHigh), pre .0 .room .lackBytes)
 
-add-requires : tie.Need-add-requires
-add-requires c κs =
-    omega (arith, row-listed _ _ _ _ _ _ (c .before .before .before .before .before .before .before .before .before .before .before .before .pre .0 .room) _ (c .before .before .before .before .before .before .before .before .before .before .before .before .pre .1 .0), c .before .before .before .before .before .before .before .before .before .before .before .before .pre .0 .room .lackBytes, c .before .before .before .before .before .before .before .before .before .before .before .before .pre .0 .room .rect .rowsHigh)
-
-mul-faulty : tie.Need-mul-faulty
-mul-faulty c =
-    omega (arith, row-listed _ _ _ _ _ _ (c .before .before .before .before .before .before .before .before .before .before .before .before .before .before .before .pre .0 .room) _ (c .before .before .before .before .before .before .before .before .before .before .before .before .before .before .before .pre .1 .0), c .before .before .before .before .before .before .before .before .before .before .before .before .before .before .before .pre .0 .room .rect .rowsHigh)
-
-slice-read-faulty : tie.Need-slice-read-faulty
-slice-read-faulty c =
-    omega (arith, row-listed _ _ _ _ _ _ (c .before .before .before .before .before .before .before .before .before .before .before .before .before .before .before .before .pre .0 .room) _ (c .before .before .before .before .before .before .before .before .before .before .before .before .before .before .before .before .pre .1 .0), c .before .before .before .before .before .before .before .before .before .before .before .before .before .before .before .before .pre .0 .room .counts, c .before .before .before .before .before .before .before .before .before .before .before .before .before .before .before .before .pre .0 .room .rect .rowsHigh)
-
-sub-faulty : tie.Need-sub-faulty
-sub-faulty c = row-counted _ _ _ _ _ _ (c .before .before .before .before .before .before .before .before .before .before .before .before .before .before .before .before .pre .0 .room) _ (c .before .before .before .before .before .before .before .before .before .before .before .before .before .before .before .before .pre .1 .0) (c .before .before .before .before .before .before .before .before .before .before .before .before .before .before .before .before .pre .0 .held) (c .before .before .before .before .before .before .before .before .before .before .before .before .before .before .before .before .pre .1 .1)
-
-slice-write-faulty : tie.Need-slice-write-faulty
-slice-write-faulty c =
-    omega (arith, row-listed _ _ _ _ _ _ (c .before .before .before .before .before .before .before .before .before .before .before .before .before .before .before .before .pre .0 .room) _ (c .before .before .before .before .before .before .before .before .before .before .before .before .before .before .before .before .pre .1 .0), c .before .before .before .before .before .before .before .before .before .before .before .before .before .before .before .before .pre .0 .room .counts, c .before .before .before .before .before .before .before .before .before .before .before .before .before .before .before .before .pre .0 .room .rect .rowsHigh)
-
-add-requires-2 : tie.Need-add-requires-2
-add-requires-2 c κs =
-    omega (arith, row-listed _ _ _ _ _ _ (c .before .before .before .before .before .before .before .before .before .before .before .before .before .before .before .before .before .pre .0 .room) _ (c .before .before .before .before .before .before .before .before .before .before .before .before .before .before .before .before .before .pre .1 .0), column-listed _ _ _ _ _ _ (c .before .before .before .before .before .before .before .before .before .before .before .before .before .before .before .before .before .pre .0 .room) _ (c .before .before .before .before .before .before .before .before .before .before .before .before .before .before .before .before .before .pre .1 .0), c .before .before .before .before .before .before .before .before .before .before .before .before .before .before .before .before .before .pre .0 .room .lackBytes, c .before .before .before .before .before .before .before .before .before .before .before .before .before .before .before .before .before .pre .0 .room .rect .rowsHigh, c .before .before .before .before .before .before .before .before .before .before .before .before .before .before .before .before .before .pre .0 .room .rect .columnsHigh, c .before .before .before .before .add .kept .0)
-
-mul-faulty-2 : tie.Need-mul-faulty-2
-mul-faulty-2 c =
-    omega (arith, column-listed _ _ _ _ _ _ (c .before .before .before .before .before .before .before .before .before .before .before .before .before .before .before .before .before .before .before .before .pre .0 .room) _ (c .before .before .before .before .before .before .before .before .before .before .before .before .before .before .before .before .before .before .before .before .pre .1 .0), c .before .before .before .before .before .before .before .before .before .before .before .before .before .before .before .before .before .before .before .before .pre .0 .room .rect .rowsHigh, c .before .before .before .before .before .before .before .before .before .before .before .before .before .before .before .before .before .before .before .before .pre .0 .room .rect .columnsHigh)
-
-slice-read-faulty-2 : tie.Need-slice-read-faulty-2
-slice-read-faulty-2 c =
-    omega (arith, column-listed _ _ _ _ _ _ (c .before .before .before .before .before .before .before .before .before .before .before .before .before .before .before .before .before .before .before .before .before .pre .0 .room) _ (c .before .before .before .before .before .before .before .before .before .before .before .before .before .before .before .before .before .before .before .before .before .pre .1 .0), length-set (c .before .before .before .before .before .before .before .before .before .before .before .before .before .before .before .before .before .before .before .before .before .args .faulty .now) (c .before .before .before .before .before .before .before .before .before .before .before .before .before .before .before .before .before .before .before .before .before .args .n / c .before .before .before .before .before .before .before .before .before .before .before .before .before .before .before .before .before .before .before .before .before .args .columns) (getD (c .before .before .before .before .before .before .before .before .before .before .before .before .before .before .before .before .before .before .before .before .before .args .faulty .now) (c .before .before .before .before .before .before .before .before .before .before .before .before .before .before .before .before .before .before .before .before .before .args .n / c .before .before .before .before .before .before .before .before .before .before .before .before .before .before .before .before .before .before .before .before .before .args .columns) 0 - 1), c .before .before .before .before .before .before .before .before .before .before .before .before .before .before .before .before .before .before .before .before .before .pre .0 .room .counts, c .before .before .before .before .before .before .before .before .before .before .before .before .before .before .before .before .before .before .before .before .before .pre .0 .room .rect .rowsHigh, c .before .before .before .before .before .before .before .before .before .before .before .before .before .before .before .before .before .before .before .before .before .pre .0 .room .rect .columnsHigh)
-
-sub-faulty-2 : tie.Need-sub-faulty-2
-sub-faulty-2 c =
-    omega (
-      arith,
-      column-counted _ _ _ _ _ _ (c .before .before .before .before .before .before .before .before .before .before .before .before .before .before .before .before .before .before .before .before .before .pre .0 .room) _ (c .before .before .before .before .before .before .before .before .before .before .before .before .before .before .before .before .before .before .before .before .before .pre .1 .0) (c .before .before .before .before .before .before .before .before .before .before .before .before .before .before .before .before .before .before .before .before .before .pre .0 .held) (c .before .before .before .before .before .before .before .before .before .before .before .before .before .before .before .before .before .before .before .before .before .pre .1 .1),
-      getD-set-other (c .before .before .before .before .before .before .before .before .before .before .before .before .before .before .before .before .before .before .before .before .before .args .faulty .now) (c .before .before .before .before .before .before .before .before .before .before .before .before .before .before .before .before .before .before .before .before .before .args .n / c .before .before .before .before .before .before .before .before .before .before .before .before .before .before .before .before .before .before .before .before .before .args .columns) (c .before .before .before .before .before .before .before .before .before .before .before .before .before .before .before .before .before .before .before .before .before .args .rows + c .before .before .before .before .before .before .before .before .before .before .before .before .before .before .before .before .before .before .before .before .before .args .n % c .before .before .before .before .before .before .before .before .before .before .before .before .before .before .before .before .before .before .before .before .before .args .columns) (getD (c .before .before .before .before .before .before .before .before .before .before .before .before .before .before .before .before .before .before .before .before .before .args .faulty .now) (c .before .before .before .before .before .before .before .before .before .before .before .before .before .before .before .before .before .before .before .before .before .args .n / c .before .before .before .before .before .before .before .before .before .before .before .before .before .before .before .before .before .before .before .before .before .args .columns) 0 - 1) 0
-          (λ e. omega (arith, row-listed _ _ _ _ _ _ (c .before .before .before .before .before .before .before .before .before .before .before .before .before .before .before .before .before .before .before .before .before .pre .0 .room) _ (c .before .before .before .before .before .before .before .before .before .before .before .before .before .before .before .before .before .before .before .before .before .pre .1 .0))),
+one-less-in-row-requires : tie.Need-one-less-in-row-requires
+one-less-in-row-requires c κs =
+    let pre = c .before .before .before .before .before .before .before .before .before .before .before .before .before .before .before .before .pre in (
+      omega (arith, row-listed _ _ _ _ _ _ (pre .0 .room) _ (pre .1 .0), pre .0 .room .rect .rowsHigh),
+      pre .0 .room .counts,
+      row-counted _ _ _ _ _ _ (pre .0 .room) _ (pre .1 .0) (pre .0 .held) (pre .1 .1),
     )
 
-slice-write-faulty-2 : tie.Need-slice-write-faulty-2
-slice-write-faulty-2 c =
-    omega (arith, column-listed _ _ _ _ _ _ (c .before .before .before .before .before .before .before .before .before .before .before .before .before .before .before .before .before .before .before .before .before .pre .0 .room) _ (c .before .before .before .before .before .before .before .before .before .before .before .before .before .before .before .before .before .before .before .before .before .pre .1 .0), length-set (c .before .before .before .before .before .before .before .before .before .before .before .before .before .before .before .before .before .before .before .before .before .args .faulty .now) (c .before .before .before .before .before .before .before .before .before .before .before .before .before .before .before .before .before .before .before .before .before .args .n / c .before .before .before .before .before .before .before .before .before .before .before .before .before .before .before .before .before .before .before .before .before .args .columns) (getD (c .before .before .before .before .before .before .before .before .before .before .before .before .before .before .before .before .before .before .before .before .before .args .faulty .now) (c .before .before .before .before .before .before .before .before .before .before .before .before .before .before .before .before .before .before .before .before .before .args .n / c .before .before .before .before .before .before .before .before .before .before .before .before .before .before .before .before .before .before .before .before .before .args .columns) 0 - 1), c .before .before .before .before .before .before .before .before .before .before .before .before .before .before .before .before .before .before .before .before .before .pre .0 .room .counts, c .before .before .before .before .before .before .before .before .before .before .before .before .before .before .before .before .before .before .before .before .before .pre .0 .room .rect .rowsHigh, c .before .before .before .before .before .before .before .before .before .before .before .before .before .before .before .before .before .before .before .before .before .pre .0 .room .rect .columnsHigh)
+add-to-column-requires : tie.Need-add-to-column-requires
+add-to-column-requires c κs =
+    let pre = c .before .before .before .before .before .before .before .before .before .before .before .before .before .before .before .before .before .before .before .before .pre in (
+      omega (arith, row-listed _ _ _ _ _ _ (pre .0 .room) _ (pre .1 .0), column-listed _ _ _ _ _ _ (pre .0 .room) _ (pre .1 .0), pre .0 .room .rect .rowsHigh, pre .0 .room .rect .columnsHigh),
+      c .before .before .before .before .before .before .before .add-to-row .kept .0 ∙ pre .0 .room .lackBytes,
+    )
+
+one-less-in-column-requires : tie.Need-one-less-in-column-requires
+one-less-in-column-requires c κs =
+    let pre = c .before .before .before .before .before .before .before .before .before .before .before .before .before .before .before .before .before .before .before .before .before .before .before .before .pre in
+    let told = c .before .before .before .before .before .before .before .one-less-in-row .ensures in (
+      omega (arith, column-listed _ _ _ _ _ _ (pre .0 .room) _ (pre .1 .0), pre .0 .room .rect .rowsHigh, pre .0 .room .rect .columnsHigh),
+      c .before .before .before .before .before .before .before .one-less-in-row .kept .0 ∙ pre .0 .room .counts,
+      column-counted _ _ _ _ _ _ (pre .0 .room) _ (pre .1 .0) (pre .0 .held) (pre .1 .1) _ told,
+    )
 
 same-length : tie.Need-same-length
 same-length c = search needs
@@ -87,8 +67,11 @@ same-length-4 c = search needs
 
 returns : tie.Need-returns
 returns c =
+    let pre = c .before .before .before .before .before .before .before .before .before .before .before .before .before .before .before .before .before .before .before .before .before .before .before .before .before .before .before .pre in
     λ parity s w carried long line-is.
-    mended-as _ _ _ _ _ _ (c .before .before .before .before .before .before .before .before .before .before .before .before .before .before .before .before .before .before .before .before .before .pre .0 .room) _ (c .before .before .before .before .before .before .before .before .before .before .before .before .before .before .before .before .before .before .before .before .before .pre .1 .0) parity s carried (c .before .before .before .before .before .before .before .before .before .before .before .before .before .before .before .before .before .before .before .before .before .pre .1 .1) w _ long (c .before .before .before .before .before .before .before .before .before .before .before .before .before .before .before .before .before .before .before .before .before .pre .1 .2) _ _ _ (c .before .before .before .before .before .before .before .before .before .before .before .before .before .before .before .line-at .ensures) line-is (c .before .before .before .before .before .before .before .before .before .before .before .before .before .before .xor-lines .ensures) _ _ _ (c .before .before .before .before .before .before .before .before .before .before .before .before .put-line .ensures) (c .before .before .before .before .before .before .before .before .add .ensures) (c .before .before .before .add2 .ensures)
+    mended-as _ _ _ _ _ _ (pre .0 .room) _ (pre .1 .0) parity s carried (pre .1 .1) w _ long (pre .1 .2) _ _ _ (c .before .before .before .before .before .before .before .before .before .before .before .before .before .before .before .before .before .before .before .before .before .line-at .ensures) line-is
+    (c .before .before .before .before .before .before .before .before .before .before .before .before .before .before .before .before .before .before .before .before .xor-lines .ensures) _ _ _ _ _ _ (c .before .before .before .before .before .before .before .before .before .before .before .before .before .before .before .before .before .before .put-line .ensures) refl (c .before .before .before .before .before .before .before .before .before .before .before .before .before .before .add-to-row .ensures) (c .before .before .before .before .before .before .before .before .before .before .one-less-in-row .ensures)
+    (c .before .before .before .before .before .before .add-to-column .ensures) (c .before .before .one-less-in-column .ensures)
 
 pub mend-spec : {M : Type 1} → statement M
 mend-spec =
@@ -100,17 +83,10 @@ mend-spec =
     slice-write-marks
     div-r
     rem-c
-    add-c
-    add-requires
-    mul-faulty
-    slice-read-faulty
-    sub-faulty
-    slice-write-faulty
-    add-requires-2
-    mul-faulty-2
-    slice-read-faulty-2
-    sub-faulty-2
-    slice-write-faulty-2
+    add-to-row-requires
+    one-less-in-row-requires
+    add-to-column-requires
+    one-less-in-column-requires
     same-length
     same-length-2
     same-length-3

@@ -1,35 +1,48 @@
 -- `mending::visit::settle_group` meets its contract.
-use borrow.Author.Needs.{needs}
-use native.Mathlib.Omega.{arith}
-use mathlib.Core.Path.{subst}
-use Rattle.groups.specs.Lent.{Carried}
+use mathlib.Core.Path.{_≡_, subst, _∙_}
+use lib.ListN.{getD}
+use Rattle.groups.specs.Lent.{Carried, numberOf}
 use Rattle.mending.proofs.Settling.{still-inside, only-inside, only-faulty, word-long, rebuilt-is, settled, unsettled}
+use native.Mathlib.Omega.{arith}
+use borrow.Author.Needs.{needs}
 use Rattle.mending.proofs.visit.settle_group.Statement.{statement}
 use Rattle.mending.proofs.visit.settle_group.Tie as tie
 
-mul-if1 : tie.Need-mul-if1
-mul-if1 c = search needs
-
-slice-read-if1 : tie.Need-slice-read-if1
-slice-read-if1 c = search needs
+count-requires : tie.Need-count-requires
+count-requires c κs = search needs
 
 first-faulty-requires : tie.Need-first-faulty-requires
-first-faulty-requires c κs = still-inside _ _ _ _ _ (c .before .before .before .before .before .before .before .pre .0 .room .rect .markBytes) (c .before .before .before .before .before .before .before .pre .1 .inside)
+first-faulty-requires c κs =
+    let pre = c .before .before .before .before .before .before .before .before .pre in
+    still-inside _ _ _ _ _ (pre .0 .room .rect .markBytes) (pre .1 .inside)
+
+-- the group has one faulty line
+one : (c : tie.Then1)
+    → let a = c .before .before .before .before .before .before .before .args in getD (a .faulty .now) (numberOf (a .rows) (a .chosen .which)) 0 ≡ 1
+one c = omega (arith, c .before .count .ensures, c .if1 .taken)
+
+difference-requires : tie.Need-difference-requires
+difference-requires c κs = search needs
 
 line-at-requires : tie.Need-line-at-requires
 line-at-requires c κs =
-    omega (arith, c .before .before .before .before .before .before .before .before .before .pre .1 .listed, c .before .before .before .before .before .before .before .before .before .pre .0 .room .lackBytes, c .before .before .before .before .before .before .before .before .before .pre .0 .room .rect .rowsHigh, c .before .before .before .before .before .before .before .before .before .pre .0 .room .rect .columnsHigh)
-
-line-at-requires-2 : tie.Need-line-at-requires-2
-line-at-requires-2 c κs =
-    omega (arith, only-inside _ _ _ _ _ _ (c .before .before .before .before .before .before .before .before .before .before .before .pre .0 .room) _ _ _ _ (c .before .before .before .before .before .before .before .before .before .before .before .pre .1) (c .before .before .before .before .before .if1 .taken) _ (c .before .before .before .first-faulty .ensures) (c .before .before .before .before .before .before .before .before .before .before .before .pre .0 .held), c .before .before .before .before .before .before .before .before .before .before .before .pre .0 .room .rect .outBytes)
+    let pre = c .before .before .before .before .before .before .before .before .before .before .before .before .pre in
+    omega (arith, only-inside _ _ _ _ _ _ (pre .0 .room) _ _ _ _ (pre .1) (one (c .before .before .before .before .before)) _ (c .before .before .before .first-faulty .ensures) (pre .0 .held), pre .0 .room .rect .outBytes)
 
 xor-lines-requires : tie.Need-xor-lines-requires
 xor-lines-requires c κs = search needs
 
 mend-requires : tie.Need-mend-requires
 mend-requires c κs =
-    (c .before .before .before .before .before .before .before .before .before .before .before .before .before .before .before .before .before .pre .0, (only-inside _ _ _ _ _ _ (c .before .before .before .before .before .before .before .before .before .before .before .before .before .before .before .before .before .pre .0 .room) _ _ _ _ (c .before .before .before .before .before .before .before .before .before .before .before .before .before .before .before .before .before .pre .1) (c .before .before .before .before .before .before .before .before .before .before .before .if1 .taken) _ (c .before .before .before .before .before .before .before .before .before .first-faulty .ensures) (c .before .before .before .before .before .before .before .before .before .before .before .before .before .before .before .before .before .pre .0 .held), only-faulty _ _ _ _ _ _ (c .before .before .before .before .before .before .before .before .before .before .before .before .before .before .before .before .before .pre .0 .room) _ _ _ _ (c .before .before .before .before .before .before .before .before .before .before .before .before .before .before .before .before .before .pre .1) (c .before .before .before .before .before .before .before .before .before .before .before .if1 .taken) _ (c .before .before .before .before .before .before .before .before .before .first-faulty .ensures) (c .before .before .before .before .before .before .before .before .before .before .before .before .before .before .before .before .before .pre .0 .held), omega arith))
+    let pre = c .before .before .before .before .before .before .before .before .before .before .before .before .before .before .before .before .before .before .pre in
+    let found = c .before .before .before .before .before .before .before .before .before .first-faulty .ensures in (
+      pre .0,
+      (
+        only-inside _ _ _ _ _ _ (pre .0 .room) _ _ _ _ (pre .1) (one (c .before .before .before .before .before .before .before .before .before .before .before)) _ found (pre .0 .held),
+        only-faulty _ _ _ _ _ _ (pre .0 .room) _ _ _ _ (pre .1) (one (c .before .before .before .before .before .before .before .before .before .before .before)) _ found (pre .0 .held),
+        omega arith,
+      ),
+    )
 
 same-length : tie.Need-same-length
 same-length c = search needs
@@ -45,26 +58,35 @@ same-length-4 c = search needs
 
 returns : tie.Need-returns
 returns c =
+    let pre = c .before .before .before .before .before .before .before .before .before .before .before .before .before .before .before .before .before .before .before .before .before .before .before .before .before .before .before .pre in
+    let found = c .before .before .before .before .before .before .before .before .before .before .before .before .before .before .before .before .before .before .first-faulty .ensures in
+    let lack = c .before .before .before .before .before .before .before .before .before .before .before .before .before .before .before .before .difference .ensures in
+    let line = c .before .before .before .before .before .before .before .before .before .before .before .before .before .before .line-at .ensures in
+    let rebuilt = c .before .before .before .before .before .before .before .before .before .before .before .before .before .xor-lines .ensures in
     λ parity s carried.
     subst (Carried _ _ parity _ _ _ _)
-    (settled _ _ _ _ _ _ (c .before .before .before .before .before .before .before .before .before .before .before .before .before .before .before .before .before .before .before .before .before .before .before .before .before .before .pre .0 .room) _ _ _ _ (c .before .before .before .before .before .before .before .before .before .before .before .before .before .before .before .before .before .before .before .before .before .before .before .before .before .before .pre .1) (c .before .before .before .before .before .before .before .before .before .before .before .before .before .before .before .before .before .before .before .before .if1 .taken) _ (c .before .before .before .before .before .before .before .before .before .before .before .before .before .before .before .before .before .before .first-faulty .ensures) parity s carried _ _ _ (c .before .before .before .before .before .before .before .before .before .before .before .before .before .before .before .before .line-at .ensures) (c .before .before .before .before .before .before .before .before .before .before .before .before .before .before .line-at2 .ensures) (c .before .before .before .before .before .before .before .before .before .before .before .before .before .xor-lines .ensures))
+    (settled _ _ _ _ _ _ (pre .0 .room) _ _ _ _ (pre .1) (one (c .before .before .before .before .before .before .before .before .before .before .before .before .before .before .before .before .before .before .before .before)) _ found parity s carried _ _ _ lack line rebuilt)
     (c .before .before .before .before .before .before .before .before .mend .ensures parity s _ carried
-    (word-long _ _ _ _ _ _ (c .before .before .before .before .before .before .before .before .before .before .before .before .before .before .before .before .before .before .before .before .before .before .before .before .before .before .pre .0 .room) _ _ _ _ (c .before .before .before .before .before .before .before .before .before .before .before .before .before .before .before .before .before .before .before .before .before .before .before .before .before .before .pre .1) (c .before .before .before .before .before .before .before .before .before .before .before .before .before .before .before .before .before .before .before .before .if1 .taken) _ (c .before .before .before .before .before .before .before .before .before .before .before .before .before .before .before .before .before .before .first-faulty .ensures) parity s carried _ _ _ (c .before .before .before .before .before .before .before .before .before .before .before .before .before .before .before .before .line-at .ensures) (c .before .before .before .before .before .before .before .before .before .before .before .before .before .before .line-at2 .ensures) (c .before .before .before .before .before .before .before .before .before .before .before .before .before .xor-lines .ensures))
-    (rebuilt-is _ _ _ _ _ _ (c .before .before .before .before .before .before .before .before .before .before .before .before .before .before .before .before .before .before .before .before .before .before .before .before .before .before .pre .0 .room) _ _ _ _ (c .before .before .before .before .before .before .before .before .before .before .before .before .before .before .before .before .before .before .before .before .before .before .before .before .before .before .pre .1) (c .before .before .before .before .before .before .before .before .before .before .before .before .before .before .before .before .before .before .before .before .if1 .taken) _ (c .before .before .before .before .before .before .before .before .before .before .before .before .before .before .before .before .before .before .first-faulty .ensures) parity s carried _ _ _ (c .before .before .before .before .before .before .before .before .before .before .before .before .before .before .before .before .line-at .ensures) (c .before .before .before .before .before .before .before .before .before .before .before .before .before .before .line-at2 .ensures) (c .before .before .before .before .before .before .before .before .before .before .before .before .before .xor-lines .ensures)))
+    (word-long _ _ _ _ _ _ (pre .0 .room) _ _ _ _ (pre .1) (one (c .before .before .before .before .before .before .before .before .before .before .before .before .before .before .before .before .before .before .before .before)) _ found parity s carried _ _ _ lack line rebuilt)
+    (rebuilt-is _ _ _ _ _ _ (pre .0 .room) _ _ _ _ (pre .1) (one (c .before .before .before .before .before .before .before .before .before .before .before .before .before .before .before .before .before .before .before .before)) _ found parity s carried _ _ _ lack line rebuilt))
+
+same-length-5 : tie.Need-same-length-5
+same-length-5 c = search needs
 
 returns-2 : tie.Need-returns-2
 returns-2 c =
-    λ parity s carried. unsettled _ _ _ _ _ _ (c .before .before .before .before .before .before .pre .0 .room) _ _ _ _ (c .before .before .before .before .before .before .pre .1) parity s carried (c .if1 .left)
+    let pre = c .before .before .before .before .before .before .before .pre in
+    λ parity s carried.
+    unsettled _ _ _ _ _ _ (pre .0 .room) _ _ _ _ (pre .1) parity s carried (λ e. c .if1 .left (c .before .count .ensures ∙ e))
 
 pub settle-group-spec : {M : Type 1} → statement M
 settle-group-spec =
     tie.close
     (tie.spec
-    mul-if1
-    slice-read-if1
+    count-requires
     first-faulty-requires
+    difference-requires
     line-at-requires
-    line-at-requires-2
     xor-lines-requires
     mend-requires
     same-length
@@ -72,4 +94,5 @@ settle-group-spec =
     same-length-3
     same-length-4
     returns
+    same-length-5
     returns-2)

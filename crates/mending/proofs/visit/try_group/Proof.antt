@@ -1,44 +1,38 @@
 -- `mending::visit::try_group` meets its contract: each way out is a case of the trials.
-use borrow.Author.Needs.{needs}
 use Rattle.mending.proofs.Mismatching.{few-faulty, no-mismatch, many-places, places-tried}
+use native.Mathlib.Omega.{arith}
+use borrow.Author.Needs.{needs}
 use Rattle.mending.proofs.visit.try_group.Statement.{statement}
 use Rattle.mending.proofs.visit.try_group.Tie as tie
 
-mul-if1 : tie.Need-mul-if1
-mul-if1 c = search needs
-
-slice-read-if1 : tie.Need-slice-read-if1
-slice-read-if1 c = search needs
-
-returns : tie.Need-returns
-returns c =
-    λ parity s carried. few-faulty _ _ _ _ _ _ _ _ _ _ (c .before .before .before .before .before .before .pre .1 .1) parity s carried (c .if1 .taken)
-
-line-at-requires : tie.Need-line-at-requires
-line-at-requires c κs = search needs
-
-set-places-requires : tie.Need-set-places-requires
-set-places-requires c κs = search needs
+count-requires : tie.Need-count-requires
+count-requires c κs = search needs
 
 same-length : tie.Need-same-length
 same-length c = search needs
 
-returns-2 : tie.Need-returns-2
-returns-2 c =
-    λ parity s carried. no-mismatch _ _ _ _ _ _ _ _ _ _ (c .before .before .before .before .before .before .before .before .before .before .before .pre .1 .1) parity s carried _ (c .before .before .before .line-at .ensures) _ _ (c .before .before .set-places .ensures) (c .if2 .taken)
+returns : tie.Need-returns
+returns c =
+    let pre = c .before .before .before .before .before .before .before .pre in
+    λ parity s carried. few-faulty _ _ _ _ _ _ _ _ _ _ (pre .1 .1) parity s carried (omega (arith, c .before .count .ensures, c .if1 .taken))
+
+difference-requires : tie.Need-difference-requires
+difference-requires c κs = search needs
+
+set-places-requires : tie.Need-set-places-requires
+set-places-requires c κs = search needs
 
 same-length-2 : tie.Need-same-length-2
 same-length-2 c = search needs
 
-returns-3 : tie.Need-returns-3
-returns-3 c =
-    λ parity s carried. many-places _ _ _ _ _ _ _ _ _ _ (c .before .before .before .before .before .before .before .before .before .before .before .before .before .pre .1 .1) parity s carried _ (c .before .before .before .before .before .line-at .ensures) _ _ (c .before .before .before .before .set-places .ensures) (c .if3 .taken)
-
-trial-requires : tie.Need-trial-requires
-trial-requires c κs = (c .before .before .before .before .before .before .before .before .before .before .before .before .before .before .before .before .before .pre .0, (c .before .before .before .before .before .before .before .before .before .before .before .before .before .before .before .before .before .pre .1 .0, (c .before .before .before .before .before .before .before .before .before .before .before .before .before .before .before .before .before .pre .1 .1, c .before .before .before .before .if3 .left, c .before .before .before .before .before .before .before .before .set-places .ensures .room)))
-
 same-length-3 : tie.Need-same-length-3
 same-length-3 c = search needs
+
+returns-2 : tie.Need-returns-2
+returns-2 c =
+    let pre = c .before .before .before .before .before .before .before .before .before .before .before .before .pre in
+    λ parity s carried.
+    no-mismatch _ _ _ _ _ _ _ _ _ _ (pre .1 .1) parity s carried _ (c .before .before .before .difference .ensures) _ _ (c .before .before .set-places .ensures) (c .if2 .taken)
 
 same-length-4 : tie.Need-same-length-4
 same-length-4 c = search needs
@@ -46,30 +40,54 @@ same-length-4 c = search needs
 same-length-5 : tie.Need-same-length-5
 same-length-5 c = search needs
 
+returns-3 : tie.Need-returns-3
+returns-3 c =
+    let pre = c .before .before .before .before .before .before .before .before .before .before .before .before .before .before .pre in
+    λ parity s carried.
+    many-places _ _ _ _ _ _ _ _ _ _ (pre .1 .1) parity s carried _ (c .before .before .before .before .before .difference .ensures) _ _ (c .before .before .before .before .set-places .ensures) (c .if3 .taken)
+
+trial-requires : tie.Need-trial-requires
+trial-requires c κs =
+    let pre = c .before .before .before .before .before .before .before .before .before .before .before .before .before .before .before .before .before .before .pre in
+    (pre .0, (pre .1 .0, (pre .1 .1, c .before .before .before .before .if3 .left, c .before .before .before .before .before .before .before .before .set-places .ensures .room)))
+
 same-length-6 : tie.Need-same-length-6
 same-length-6 c = search needs
 
+same-length-7 : tie.Need-same-length-7
+same-length-7 c = search needs
+
+same-length-8 : tie.Need-same-length-8
+same-length-8 c = search needs
+
+same-length-9 : tie.Need-same-length-9
+same-length-9 c = search needs
+
 returns-4 : tie.Need-returns-4
 returns-4 c =
+    let pre = c .before .before .before .before .before .before .before .before .before .before .before .before .before .before .before .before .before .before .before .before .before .before .before .before .before .before .before .pre in
     λ parity s carried.
-    places-tried _ _ _ _ _ _ _ _ _ _ (c .before .before .before .before .before .before .before .before .before .before .before .before .before .before .before .before .before .before .before .before .before .before .before .before .before .before .pre .1 .1) parity s carried _ (c .before .before .before .before .before .before .before .before .before .before .before .before .before .before .before .before .before .before .line-at .ensures) _ _ (c .before .before .before .before .before .before .before .before .before .before .before .before .before .before .before .before .before .set-places .ensures) _ _ _ _ (c .before .before .before .before .before .before .before .before .before .before .before .before .before .before .before .before .before .before .before .before .if1 .left) (c .before .before .before .before .before .before .before .before .before .before .before .before .before .before .before .if2 .left) (c .before .before .before .before .before .before .before .before .before .before .before .before .before .if3 .left) (c .before .before .before .before .before .before .before .before .trial .ensures parity s carried)
+    places-tried _ _ _ _ _ _ _ _ _ _ (pre .1 .1) parity s carried _ (c .before .before .before .before .before .before .before .before .before .before .before .before .before .before .before .before .before .before .difference .ensures) _ _ (c .before .before .before .before .before .before .before .before .before .before .before .before .before .before .before .before .before .set-places .ensures) _ _ _ _
+    (omega (arith, c .before .before .before .before .before .before .before .before .before .before .before .before .before .before .before .before .before .before .before .before .before .count .ensures, c .before .before .before .before .before .before .before .before .before .before .before .before .before .before .before .before .before .before .before .before .if1 .left)) (c .before .before .before .before .before .before .before .before .before .before .before .before .before .before .before .if2 .left) (c .before .before .before .before .before .before .before .before .before .before .before .before .before .if3 .left) (c .before .before .before .before .before .before .before .before .trial .ensures parity s carried)
 
 pub try-group-spec : {M : Type 1} → statement M
 try-group-spec =
     tie.close
     (tie.spec
-    mul-if1
-    slice-read-if1
-    returns
-    line-at-requires
-    set-places-requires
+    count-requires
     same-length
-    returns-2
+    returns
+    difference-requires
+    set-places-requires
     same-length-2
-    returns-3
-    trial-requires
     same-length-3
+    returns-2
     same-length-4
     same-length-5
+    returns-3
+    trial-requires
     same-length-6
+    same-length-7
+    same-length-8
+    same-length-9
     returns-4)

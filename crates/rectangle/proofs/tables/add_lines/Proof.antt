@@ -36,11 +36,11 @@ line-at-requires c κs = held c
 xor-bytes-requires : tie.Need-xor-bytes-requires Inv-loop μ-loop
 xor-bytes-requires c κs = search needs
 
-add-add-line : tie.Need-add-add-line Inv-loop μ-loop
-add-add-line c = omega arith
+add-t12 : tie.Need-add-t12 Inv-loop μ-loop
+add-t12 c = omega arith
 
-add-line-requires : tie.Need-add-line-requires Inv-loop μ-loop
-add-line-requires c κs =
+add-to-column-sum-requires : tie.Need-add-to-column-sum-requires Inv-loop μ-loop
+add-to-column-sum-requires c κs =
     let turn = c .before .before .before in
     let here = turn .before .loop in
     let start = turn .before .before .before .before in
@@ -65,7 +65,7 @@ loop-again c =
       omega arith,
       adding-more _ _ _ _ (here .column-sums) (start .args .sum) (here .total) (here .inv .1) (seventy _ _ (held turn)) (start .pre .2)
           (omega (arith, start .pre .1)) _ _
-          (added .add-line .ensures
+          (added .add-to-column-sum .ensures
           ∙ ap (λ (l : List ℕ). putBytes (here .column-sums) at (xorBytes (bytesAt (here .column-sums) at) l)) (read .line-at .ensures))
           (summed .xor-bytes .ensures ∙ ap (xorBytes (here .total)) (read .line-at .ensures)),
     )
@@ -90,8 +90,8 @@ add-lines-spec =
     add-line-at
     line-at-requires
     xor-bytes-requires
-    add-add-line
-    add-line-requires
+    add-t12
+    add-to-column-sum-requires
     add-i
     loop-less
     loop-again

@@ -23,11 +23,8 @@ column-parity-requires c κs = omega (arith, c .before .before .before .before .
 clear-spare-requires : tie.Need-clear-spare-requires Inv-loop μ-loop
 clear-spare-requires c κs = search needs
 
-add-put-line : tie.Need-add-put-line Inv-loop μ-loop
-add-put-line c = omega arith
-
-put-line-requires : tie.Need-put-line-requires Inv-loop μ-loop
-put-line-requires c κs = omega (arith, c .before .before .before .before .loop .inv .whole, c .before .before .before .before .before .before .before .pre .0, c .before .before .before .before .before .before .before .pre .1)
+put-column-difference-requires : tie.Need-put-column-difference-requires Inv-loop μ-loop
+put-column-difference-requires c κs = (omega (arith, c .before .before .before .before .before .before .before .pre .0, c .before .before .before .before .before .before .before .pre .1), c .before .before .before .before .loop .inv .whole)
 
 add-c : tie.Need-add-c Inv-loop μ-loop
 add-c c = omega arith
@@ -37,7 +34,7 @@ loop-less c = omega arith
 
 loop-again : tie.Need-loop-again Inv-loop μ-loop
 loop-again c =
-    laid-next _ _ _ _ _ (c .before .before .before .before .before .before .before .loop .c) _ _ _ _ (omega arith) (c .before .before .before .before .before .before .before .loop .inv) (c .before .before .before .before .before .before .loop-test .taken) (refl) (c .before .before .before .before .before .column-parity .ensures) (c .before .before .before .before .clear-spare .ensures) (c .before .before .put-line .ensures)
+    laid-next _ _ _ _ _ (c .before .before .before .before .before .before .before .loop .c) _ _ _ _ (omega arith) (c .before .before .before .before .before .before .before .loop .inv) (c .before .before .before .before .before .before .loop-test .taken) (refl) (c .before .before .before .before .before .column-parity .ensures) (c .before .before .before .before .clear-spare .ensures) (c .before .before .put-column-difference .ensures)
 
 same-length : tie.Need-same-length Inv-loop μ-loop
 same-length c = c .before .loop .inv .same
@@ -54,8 +51,7 @@ start-columns-spec =
     loop-holds
     column-parity-requires
     clear-spare-requires
-    add-put-line
-    put-line-requires
+    put-column-difference-requires
     add-c
     loop-less
     loop-again

@@ -22,8 +22,8 @@ row-parity-requires c κs = omega (arith, c .before .before .before .before .pre
 clear-spare-requires : tie.Need-clear-spare-requires Inv-loop μ-loop
 clear-spare-requires c κs = search needs
 
-put-line-requires : tie.Need-put-line-requires Inv-loop μ-loop
-put-line-requires c κs = omega (arith, c .before .before .before .before .loop .inv .whole, c .before .before .before .before .before .before .before .pre .0)
+put-row-difference-requires : tie.Need-put-row-difference-requires Inv-loop μ-loop
+put-row-difference-requires c κs = (omega (arith, c .before .before .before .before .before .before .before .pre .0), c .before .before .before .before .loop .inv .whole)
 
 add-r : tie.Need-add-r Inv-loop μ-loop
 add-r c = omega arith
@@ -33,7 +33,7 @@ loop-less c = omega arith
 
 loop-again : tie.Need-loop-again Inv-loop μ-loop
 loop-again c =
-    laid-next _ _ _ _ _ (c .before .before .before .before .before .before .before .loop .r) _ _ _ _ (omega arith) (c .before .before .before .before .before .before .before .loop .inv) (c .before .before .before .before .before .before .loop-test .taken) (omega arith) (c .before .before .before .before .before .row-parity .ensures) (c .before .before .before .before .clear-spare .ensures) (c .before .before .put-line .ensures)
+    laid-next _ _ _ _ _ (c .before .before .before .before .before .before .before .loop .r) _ _ _ _ (omega arith) (c .before .before .before .before .before .before .before .loop .inv) (c .before .before .before .before .before .before .loop-test .taken) (omega arith) (c .before .before .before .before .before .row-parity .ensures) (c .before .before .before .before .clear-spare .ensures) (c .before .before .put-row-difference .ensures)
 
 same-length : tie.Need-same-length Inv-loop μ-loop
 same-length c = c .before .loop .inv .same
@@ -50,7 +50,7 @@ start-rows-spec =
     loop-holds
     row-parity-requires
     clear-spare-requires
-    put-line-requires
+    put-row-difference-requires
     add-r
     loop-less
     loop-again

@@ -1,11 +1,14 @@
 -- `repair::passes::visit_all` meets its contract: after k turns the first k groups are visited.
-use native.Mathlib.Omega.{arith}
-use mathlib.Core.Path.{_≡_, refl, sym, _∙_}
+use mathlib.Core.Path.{_≡_, refl, sym, ap, subst, _∙_}
 use mathlib.Core.Logic.{⊎-elim}
-use Prim.Native.Nat.{_+_, _-_}
-use Rattle.groups.proofs.Numbers.{renumber}
+use Prim.Native.Nat.{ℕ, _+_, _-_, _<_}
+use lib.ListN.{getD}
+use Rattle.groups.specs.Lent.{numberOf}
+use Rattle.groups.proofs.Numbers.{which-number, renumber}
 use Rattle.groups.proofs.Rooms.{same-room}
 use Rattle.repair.proofs.Passing.{Passing, passing-start, passing-some, passing-next, passing-idle, passing-end, repass}
+use borrow.Author.Needs.{needs}
+use native.Mathlib.Omega.{arith}
 use Rattle.repair.proofs.passes.visit_all.Statement.{statement}
 use Rattle.repair.proofs.passes.visit_all.Tie as tie
 
@@ -22,23 +25,35 @@ add-groups c = omega (arith, c .before .before .before .before .pre .1 .room .re
 loop-holds : tie.Need-loop-holds Inv-loop μ-loop
 loop-holds c = (refl, passing-start _ _ _ _ _ _ (c .before .before .before .before .pre .1 .room))
 
-mul-if1 : tie.Need-mul-if1 Inv-loop μ-loop
-mul-if1 c =
-    omega (arith, c .before .loop .inv .0, c .before .before .before .before .before .before .pre .1 .room .rect .rowsHigh, c .before .before .before .before .before .before .pre .1 .room .rect .columnsHigh)
+nth-requires : tie.Need-nth-requires Inv-loop μ-loop
+nth-requires c κs = search needs
 
-slice-read-if1 : tie.Need-slice-read-if1 Inv-loop μ-loop
-slice-read-if1 c =
-    omega (arith, c .before .before .loop .inv .0, c .before .before .loop .inv .1 .room .counts, c .before .before .before .before .before .before .before .pre .1 .room .rect .rowsHigh, c .before .before .before .before .before .before .before .pre .1 .room .rect .columnsHigh)
+-- the group's number is the loop's
+number : (c : tie.After-nth Inv-loop μ-loop) → numberOf (c .before .before .before .before .before .before .before .before .args .rows) (c .nth .result) ≡ c .before .before .before .loop .k
+number c = ap (numberOf (c .before .before .before .before .before .before .before .before .args .rows)) (c .nth .ensures) ∙ which-number _ _
+
+count-requires : tie.Need-count-requires Inv-loop μ-loop
+count-requires c κs =
+    let rect = c .before .before .before .before .before .before .before .before .pre .1 .room .rect in
+    let few : c .before .before .before .loop .k < 1024 = omega (arith, c .before .before .before .loop .inv .0, c .before .before .loop-test .taken, rect .rowsHigh, rect .columnsHigh) in
+    (subst (λ (k : ℕ). k < 1024) (sym (number c)) few, c .before .before .before .loop .inv .1 .room .counts)
 
 choose-requires : tie.Need-choose-requires Inv-loop μ-loop
 choose-requires c κs =
-    (c .before .before .before .before .before .before .before .before .pre .1 .room .rect .rowsLow, c .before .before .before .before .before .before .before .before .pre .1 .room .rect .rowsHigh, c .before .before .before .before .before .before .before .before .pre .1 .room .rect .columnsLow, c .before .before .before .before .before .before .before .before .pre .1 .room .rect .columnsHigh, omega (arith, c .before .before .before .loop .inv .0, c .before .before .loop-test .taken))
+    let rect = c .before .before .before .before .before .before .before .before .before .before .pre .1 .room .rect in
+    (rect .rowsLow, rect .rowsHigh, rect .columnsLow, rect .columnsHigh, omega (arith, c .before .before .before .before .before .loop .inv .0, c .before .before .before .before .loop-test .taken))
 
 visit-group-requires : tie.Need-visit-group-requires Inv-loop μ-loop
-visit-group-requires c κs = (
-  c .before .before .before .before .before .before .before .before .before .before .before .before .before .pre .0,
-  (record { room = c .before .before .before .before .before .before .before .before .loop .inv .1 .room; held = passing-some _ _ _ _ _ _ _ _ _ _ _ (c .before .before .before .before .before .before .before .before .loop .inv .1) (c .before .before .before .before .before .before .before .before .before .before .before .before .before .pre .1 .held) }, renumber _ _ _ _ _ _ _ (c .before .before .before .before .choose .ensures .0) (c .before .before .before .before .choose .ensures .1)),
-)
+visit-group-requires c κs =
+    let pre = c .before .before .before .before .before .before .before .before .before .before .before .before .before .before .before .pre in
+    let here = c .before .before .before .before .before .before .before .before .before .before .loop .inv .1 in
+    let chosen = c .before .before .before .before .choose .ensures in (
+      pre .0,
+      (
+        record { room = here .room; held = passing-some _ _ _ _ _ _ _ _ _ _ _ here (pre .1 .held) },
+        renumber _ _ _ _ _ _ _ (chosen .0) (chosen .1),
+      ),
+    )
 
 add-k : tie.Need-add-k Inv-loop μ-loop
 add-k c = omega arith
@@ -48,17 +63,18 @@ loop-less c = omega arith
 
 loop-again : tie.Need-loop-again Inv-loop μ-loop
 loop-again c =
-    let here = c .before .before .before .loop in (
+    let here = c .before .before .before .before .before .loop in (
       here .inv .0,
       ⊎-elim
           (λ w.
           repass _ _ _ _ _ _ _ _ _ _ _ _ _ _ _ (w .15) (w .16) (w .17) (w .18)
-          (passing-next _ _ _ _ _ _ _ _ _ _ (here .k) (here .inv .1) _ _ _ _ _ (omega (arith, here .inv .0, c .before .before .loop-test .taken)) (w .1 .ensures .0)
+          (passing-next _ _ _ _ _ _ _ _ _ _ (here .k) (here .inv .1) _ _ _ _ _ (omega (arith, here .inv .0, c .before .before .before .before .loop-test .taken)) (w .1 .ensures .0)
           (same-room _ _ _ _ _ _ _ _ _ _ (here .inv .1 .room) (w .6 .kept .1 .0) (w .6 .kept .1 .1 .0) (w .6 .kept .1 .1 .1 .0) (w .6 .kept .1 .1 .1 .1 .0))
           (w .6 .ensures)))
           (λ w.
           repass _ _ _ _ _ _ _ _ _ _ _ _ _ _ _ (w .1) (w .2) (w .3) (w .4)
-          (passing-idle _ _ _ _ _ _ _ _ _ _ (here .k) (here .inv .1) (omega (arith, here .inv .0, c .before .before .loop-test .taken)) (w .0 .left)))
+          (passing-idle _ _ _ _ _ _ _ _ _ _ (here .k) (here .inv .1) (omega (arith, here .inv .0, c .before .before .before .before .loop-test .taken))
+          (sym (c .before .count .ensures ∙ ap (λ (k : ℕ). getD (here .faulty) k 0) (number (c .before .before))) ∙ w .0 .left)))
           (c .if1 .came),
     )
 
@@ -75,8 +91,7 @@ same-length-4 : tie.Need-same-length-4 Inv-loop μ-loop
 same-length-4 c = c .before .loop .inv .1 .room .counts ∙ sym (c .before .before .before .before .before .before .pre .1 .room .counts)
 
 returns : tie.Need-returns Inv-loop μ-loop
-returns c =
-    passing-end _ _ _ _ _ _ _ _ _ _ _ (c .before .loop .inv .1) (omega (arith, c .before .loop .inv .0, c .loop-test .left))
+returns c = passing-end _ _ _ _ _ _ _ _ _ _ _ (c .before .loop .inv .1) (omega (arith, c .before .loop .inv .0, c .loop-test .left))
 
 pub visit-all-spec : {M : Type 1} → statement M
 visit-all-spec =
@@ -86,8 +101,8 @@ visit-all-spec =
     μ-loop
     add-groups
     loop-holds
-    mul-if1
-    slice-read-if1
+    nth-requires
+    count-requires
     choose-requires
     visit-group-requires
     add-k
