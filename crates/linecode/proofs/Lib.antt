@@ -1,6 +1,7 @@
 -- Laws of one line of 70 bytes.
 pub mod Bytes
 pub mod Line
+pub mod IndexOf
 pub mod Positions
 pub mod Stores
 pub mod Loading
