@@ -1,21 +1,18 @@
 -- The positions: the rule of the constant table, and the Hamming bits as a sum of positions.
-use mathlib.Core.Path.{_≡_, refl, sym, ap, ap₂, _∙_, subst}
+use mathlib.Core.Path.{_≡_, refl, sym, ap, _∙_, subst}
 use mathlib.Core.Bool.{Bool, true, false, not, _&&_, _||_}
 use mathlib.Core.List.{List, [], _∷_, _++_, map}
-use Prim.Native.Nat.{ℕ, zero, suc, _+_, _*_, _/_, _%_, _^_, _≤_, _<_}
-use native.Mathlib.Nat.{not-suc-le-zero, le-of-suc-le-suc, zero-add, suc-add, add-zero}
+use Prim.Native.Nat.{ℕ, zero, suc, _+_, _/_, _^_, _≤_, _<_}
+use native.Mathlib.Nat.{not-suc-le-zero, le-of-suc-le-suc, zero-add}
 use native.Mathlib.Decide.{decLt}
-use native.Mathlib.Numerals.{add-one}
 use native.Mathlib.Omega.{arith}
 use borrow.Author.Tests.{eq-eqb}
-use lib.Bits.{bitXor, xor-lt, xor-zero-r}
-use lib.Dec.{T, eqb, ltb, ltb→lt, lit<}
-use lib.ListN.{length, take, drop, getD, drop-of-length-le}
+use lib.Bits.{xor-lt}
+use lib.Dec.{T, eqb, ltb, ltb→lt}
+use lib.ListN.{length, getD}
 use lib.Pow.{pow-pos, pow-mono, shr-shr}
-use lib.Seq.{drop-cons}
-use Rattle.gf2.specs.Word.{Word, digits, number}
-use Rattle.gf2.specs.Check.{columnSum, hammingBit, bit}
-use Rattle.gf2.proofs.Digits.{bitXor-assoc}
+use Rattle.gf2.specs.Word.{Word, digits}
+use Rattle.gf2.specs.Check.{columnSum, bit}
 use Rattle.gf2.proofs.Hamming.{hammingBit-bit}
 pub use Rattle.register.proofs.TableRule.{and-parts}
 use Rattle.register.proofs.TableRule.{alike, alike-sound, getD-map, getD-upFrom, length-upFrom}

@@ -1,20 +1,19 @@
 -- The syndrome: its two parts, and the place that it names.
 use mathlib.Core.Path.{_≡_, refl, sym, ap, ap₂, _∙_, subst}
-use mathlib.Core.Bool.{Bool, true, false, _&&_, _||_, cond}
+use mathlib.Core.Bool.{Bool, true, false, _&&_, cond}
 use mathlib.Core.Logic.{_⊎_, inl, inr}
 use mathlib.Core.List.{List, [], _∷_, _++_, map}
-use Prim.Native.Nat.{ℕ, zero, suc, _+_, _-_, _*_, _/_, _%_, _^_, _≤_, _<_}
-use native.Mathlib.Nat.{pow-suc, mul-assoc, mul-comm, not-suc-le-zero, le-of-suc-le-suc}
-use native.Mathlib.Numerals.{add-one}
+use Prim.Native.Nat.{ℕ, zero, suc, _+_, _-_, _*_, _^_, _≤_, _<_}
+use native.Mathlib.Nat.{pow-suc, not-suc-le-zero, le-of-suc-le-suc}
 use native.Mathlib.Omega.{arith}
 use native.Mathlib.Decide.{decLe, decLt}
 use borrow.Author.Tests.{lt-ltb, le-ltb}
-use lib.Bits.{bitXor, xor-comm, xor-shifted, xor-zero-r}
+use lib.Bits.{bitXor, xor-comm, xor-shifted}
 use lib.Dec.{T, eqb, ltb, eqb→eq, ltb→lt}
 use lib.ListN.{length, take, drop, getD, take-append-drop, length-append, length-drop, List·getD-append}
 use lib.Pow.{pow-lt}
 use lib.Seq.{length-take-le, getD-append-add}
-use Rattle.gf2.specs.Word.{Word, flip, digits, number}
+use Rattle.gf2.specs.Word.{Word, flip, number}
 use Rattle.gf2.specs.Check.{columnSum}
 use Rattle.gf2.proofs.Hamming.{columnSum-append, columnSum-flip}
 use Rattle.linecode.specs.Places.{protectedPlaces, hammingPlaces, linePlaces, places}

@@ -6,7 +6,6 @@ use native.Mathlib.Nat.{not-suc-le-zero, pow-suc, mul-comm}
 use native.Mathlib.Numerals.{add-one}
 use native.Mathlib.Omega.{arith}
 use borrow.Author.Count.{below-more}
-use borrow.Author.Needs.{needs}
 use lib.Pow.{pow-lt}
 use Rattle.linecode.specs.Places.{hammingPlaces}
 use Rattle.linecode.specs.Code.{answerTo, positions, hammingColumns}

@@ -1,10 +1,9 @@
 -- `linecode::hamming::place_in` meets its contract. The loop halves the part of the table in which the syndrome may stand.
-use mathlib.Core.Path.{_≡_, sym, ap, _∙_, subst}
+use mathlib.Core.Path.{sym, ap, _∙_, subst}
 use mathlib.Core.Logic.{⊎-elim}
-use Prim.Native.Nat.{ℕ, _+_, _-_, _/_, _≤_, _<_}
+use Prim.Native.Nat.{ℕ, _+_, _-_, _/_, _≤_}
 use native.Mathlib.Omega.{arith}
-use lib.ListN.{length}
-use Rattle.linecode.specs.Code.{indexOf, positions, PositionTable}
+use Rattle.linecode.specs.Code.{indexOf}
 use Rattle.linecode.proofs.IndexOf.{Searching, search-start, search-right, search-left, search-found, search-missed}
 use Rattle.linecode.proofs.Positions.{length-table}
 use Rattle.linecode.proofs.hamming.place_in.Statement.{statement}
