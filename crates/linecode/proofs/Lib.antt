@@ -8,6 +8,7 @@ pub mod Loading
 pub mod Linear
 pub mod WordBytes
 pub mod Syndrome
+pub mod Answers
 pub mod CrcRegister
 pub mod Codeword
 pub mod ReadAlone

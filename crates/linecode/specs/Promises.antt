@@ -2,19 +2,19 @@
 use mathlib.Core.Path.{_≡_}
 use mathlib.Core.Logic.{_⊎_, _↔_}
 use mathlib.Core.List.{List, _++_}
-use Prim.Native.Nat.{ℕ, _≤_, _<_}
+use Prim.Native.Nat.{ℕ, _^_, _≤_, _<_}
 use lib.Dec.{T}
-use lib.ListN.{length}
+use lib.ListN.{length, getD}
 use Rattle.gf2.specs.Word.{Word, _⊕_, distance}
 use Rattle.gf2.specs.Check.{divisible, crc}
 use Rattle.gf2.specs.Generator.{generator}
 use Rattle.linecode.specs.Places.{linePlaces, bitsOf, places}
-use Rattle.linecode.specs.Code.{Correct, answerTo}
+use Rattle.linecode.specs.Code.{Correct, columns, answerTo, syndromeOf, placeOf}
 use Rattle.linecode.specs.Reading.{Read, readAlone}
 use Rattle.linecode.specs.Entry.{written, reading}
 use Rattle.linecode.specs.declared.alone.Reading.{Reading}
 use Rattle.linecode.specs.declared.hamming.Answer.{Answer}
-use Rattle.linecode.specs.declared.hamming.Answer.the-variants.{None}
+use Rattle.linecode.specs.declared.hamming.Answer.the-variants.{None, Hamming}
 
 -- a line read alone is accepted, and read as w
 pub record ReadsAs (w : Word) (r : Read) : Type 0 where
@@ -49,3 +49,9 @@ pub record Promises : Type 0 where
       → T (divisible generator (data′ ++ check)) ↔ (check ≡ crc generator data′)
   -- none is answered to a syndrome of 0 and above 553, and to no other
   pub none : (s : ℕ) → (answerTo s ≡ None) ↔ ((s ≡ 0) ⊎ (553 < s))
+  -- a syndrome up to 553 is the number of what it answers; that of none is 0
+  pub numbered : (s : ℕ) → s ≤ 553 → syndromeOf (answerTo s) ≡ s
+  -- Hamming place k is answered to 2^k, and to no other syndrome
+  pub powers : (s k : ℕ) → (answerTo s ≡ Hamming k) ↔ ((k < 10) × (s ≡ 2 ^ k))
+  -- the place that a syndrome from 1 to 553 names has that number
+  pub named : (s : ℕ) → 1 ≤ s → s ≤ 553 → getD columns (placeOf (answerTo s)) 0 ≡ s

@@ -58,8 +58,7 @@ loop-less c = omega arith
 loop-again : tie.Need-loop-again Inv-loop μ-loop
 loop-again c =
     let here = c .before .before .loop in
-    let inv = here .inv in
-    (
+    let inv = here .inv in (
       omega arith,
       ap (λ (n : ℕ). 2 * n) (inv .1) ∙ power-next (here .k),
       below-more _ (here .k) (inv .2) (λ q. c .if3 .left (inv .1 ∙ q)),

@@ -1,5 +1,5 @@
 -- `linecode::hamming::place_in` meets its contract. The loop halves the part of the table in which the syndrome may stand.
-use mathlib.Core.Path.{sym, ap, _∙_, subst}
+use mathlib.Core.Path.{sym, ap, subst}
 use mathlib.Core.Logic.{⊎-elim}
 use Prim.Native.Nat.{ℕ, _+_, _-_, _/_, _≤_}
 use native.Mathlib.Omega.{arith}
@@ -18,7 +18,8 @@ abbrev μ-loop : tie.MeasureT-loop
 loop-holds : tie.Need-loop-holds Inv-loop μ-loop
 loop-holds c = (
   omega arith,
-  search-start (c .args .table .now) (c .args .syndrome) (c .pre .ascending) 543 (length-table (c .args .table .now) (c .pre)) (omega arith),
+  search-start (c .args .table .now) (c .args .syndrome) (c .pre .ascending) _
+      (omega (arith, length-table (c .args .table .now) (c .pre))) (omega arith),
 )
 
 add-if1 : tie.Need-add-if1 Inv-loop μ-loop
@@ -45,14 +46,13 @@ loop-again c =
     let start = c .before .before .before .before in
     let t = start .args .table .now in
     let s = start .args .syndrome in
-    let more = c .before .before .loop-test .taken in
-    (
+    let more = c .before .before .loop-test .taken in (
       ⊎-elim (λ w. omega arith) (λ w. omega arith) (c .if1 .came),
       ⊎-elim
           (λ w. subst (λ (n : ℕ). Searching t s n (here .left - here .left / 2)) (sym (w .1))
-          (search-right t s (start .pre .ascending) (here .first) (here .left) more (here .inv .1) (w .0 .taken)))
+          (search-right t s (start .pre .ascending) (here .first) (here .left) more (here .inv .1) (omega (arith, w .0 .taken))))
           (λ w. subst (λ (n : ℕ). Searching t s n (here .left - here .left / 2)) (sym (w .1))
-          (search-left t s (start .pre .ascending) (here .first) (here .left) more (here .inv .1) (w .0 .left)))
+          (search-left t s (start .pre .ascending) (here .first) (here .left) more (here .inv .1) (omega (arith, w .0 .left))))
           (c .if1 .came),
     )
 
@@ -68,8 +68,11 @@ returns c =
     let start = c .before .before .before .before in
     let t = start .args .table .now in
     let s = start .args .syndrome in
-    sym (search-found t s (start .pre .ascending) (here .first) (here .left) (c .before .before .loop-test .left) (here .inv .1) (c .if2 .taken))
-    ∙ ap (indexOf s) (start .pre .all)
+    omega (
+      arith,
+      search-found t s (start .pre .ascending) (here .first) (here .left) (c .before .before .loop-test .left) (here .inv .1) (c .if2 .taken),
+      ap (indexOf s) (start .pre .all),
+    )
 
 returns-2 : tie.Need-returns-2 Inv-loop μ-loop
 returns-2 c =
@@ -77,9 +80,12 @@ returns-2 c =
     let start = c .before .before .before .before in
     let t = start .args .table .now in
     let s = start .args .syndrome in
-    sym (length-table t (start .pre))
-    ∙ sym (search-missed t s (start .pre .ascending) (here .first) (here .left) (c .before .before .loop-test .left) (here .inv .1) (c .if2 .left))
-    ∙ ap (indexOf s) (start .pre .all)
+    omega (
+      arith,
+      length-table t (start .pre),
+      search-missed t s (start .pre .ascending) (here .first) (here .left) (c .before .before .loop-test .left) (here .inv .1) (c .if2 .left),
+      ap (indexOf s) (start .pre .all),
+    )
 
 pub place-in-spec : {M : Type 1} → statement M
 place-in-spec =
