@@ -1,9 +1,9 @@
 -- The roots of the generator: a is a root of its polynomial and has order 1023, and its powers 0 to 6 are roots of the generator.
 -- Each is one computed test.
-use mathlib.Core.Path.{_≡_, refl, sym, ap, _∙_, subst}
+use mathlib.Core.Path.{_≡_, sym, ap, _∙_, subst}
 use mathlib.Core.Bool.{Bool, true, false, not, _&&_}
-use mathlib.Core.List.{[], _∷_, reverse}
-use Prim.Native.Nat.{ℕ, zero, suc, _*_, _-_, _≤_, _<_}
+use mathlib.Core.List.{reverse}
+use Prim.Native.Nat.{ℕ, zero, suc, _-_, _≤_, _<_}
 use native.Mathlib.Nat.{not-suc-le-zero, le-of-suc-le-suc}
 use native.Mathlib.Decide.{decLe}
 use native.Mathlib.Omega.{arith}
@@ -12,7 +12,8 @@ use lib.ListN.{take}
 use Rattle.gf2.specs.Word.{Word, zeros, same}
 use Rattle.gf2.specs.Polynomial.{divideStep, divide}
 use Rattle.gf2.specs.Generator.{generatorPolynomial}
-use Rattle.gf2.specs.Roots.{fieldPolynomial, rootPower, valueAt, RootAt, HasOrder, RootOfItsPolynomial, OrderIs1023, RootsOfTheGenerator}
+use Rattle.gf2.specs.Roots.{fieldPolynomial, rootPower, valueAt, RootAt, HasOrder}
+use Rattle.gf2.specs.Roots.{RootOfItsPolynomial, OrderIs1023, RootsOfTheGenerator}
 use Rattle.gf2.proofs.Same.{same-refl, same-equal}
 use Rattle.gf2.proofs.Listing.{and-left, and-right}
 

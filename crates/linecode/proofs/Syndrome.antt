@@ -17,7 +17,8 @@ use Rattle.gf2.specs.Word.{Word, flip, number}
 use Rattle.gf2.specs.Check.{columnSum}
 use Rattle.gf2.proofs.Hamming.{columnSum-append, columnSum-flip}
 use Rattle.linecode.specs.Places.{protectedPlaces, hammingPlaces, linePlaces, places}
-use Rattle.linecode.specs.Code.{protected, storedHamming, positions, hammingColumns, columns, upFrom, syndrome, indexOf, naming, answerTo}
+use Rattle.linecode.specs.Code.{protected, storedHamming, positions, hammingColumns, columns, upFrom, syndrome}
+use Rattle.linecode.specs.Code.{indexOf, naming, answerTo}
 use Rattle.linecode.specs.declared.hamming.Answer.{Answer}
 use Rattle.linecode.specs.declared.hamming.Answer.the-variants.{None, Hamming, Protected}
 use Rattle.linecode.proofs.Line.{protected-is, places-is}
@@ -122,7 +123,8 @@ unfolding naming protectedPlaces linePlaces
 naming-hamming k h =
     let m : 543 + k < 553 = omega arith in
     let e : 543 + k - 543 ≡ k = omega arith in
-    ap₂ (λ (b c : Bool). cond b (Protected (543 + k)) (cond c (Hamming (543 + k - 543)) None)) (le-ltb (543 + k) 543 (omega arith)) (lt-ltb (543 + k) 553 m)
+    ap₂ (λ (b c : Bool). cond b (Protected (543 + k)) (cond c (Hamming (543 + k - 543)) None))
+    (le-ltb (543 + k) 543 (omega arith)) (lt-ltb (543 + k) 553 m)
     ∙ ap Hamming e
 
 pub naming-none : naming 553 ≡ None
@@ -165,7 +167,8 @@ power-named k h =
 
 -- none is answered to 0 and above 553, and to nothing else
 absent : (s n : ℕ) (cs : List ℕ) → T (allBelow n cs) → n ≤ s → indexOf s cs ≡ length cs
-absent s n cs t h = indexOf-absent s cs (λ (j : ℕ) (l : j < length cs) (e : getD cs j 0 ≡ s). let z : ⊥ = omega (arith, below cs t j l) in z)
+absent s n cs t h =
+    indexOf-absent s cs (λ (j : ℕ) (l : j < length cs) (e : getD cs j 0 ≡ s). let z : ⊥ = omega (arith, below cs t j l) in z)
   where
     below : (cs : List ℕ) → T (allBelow n cs) → (j : ℕ) → j < length cs → getD cs j 0 < n
     below [] t j l = absurd (not-suc-le-zero l)
@@ -206,7 +209,9 @@ pub answer-none : (s i : ℕ) → i ≡ indexOf s positions → 543 ≤ i → ((
 unfolding answerTo columns
 answer-none s i e h none =
     let l : indexOf s positions ≡ length positions = omega (arith, indexOf-le s positions, length-positions) in
-    ap naming (indexOf-right s positions hammingColumns l ∙ ap₂ _+_ length-positions (indexOf-absent s hammingColumns none′ ∙ length-hammingColumns))
+    ap naming
+    (indexOf-right s positions hammingColumns l
+    ∙ ap₂ _+_ length-positions (indexOf-absent s hammingColumns none′ ∙ length-hammingColumns))
     ∙ naming-none
   where
     none′ : (j : ℕ) → j < length hammingColumns → getD hammingColumns j 0 ≡ s → ⊥

@@ -68,9 +68,10 @@ returns c =
     let start = c .before .before .before .before in
     let t = start .args .table .now in
     let s = start .args .syndrome in
+    let done = c .before .before .loop-test .left in
     omega (
       arith,
-      search-found t s (start .pre .ascending) (here .first) (here .left) (c .before .before .loop-test .left) (here .inv .1) (c .if2 .taken),
+      search-found t s (start .pre .ascending) (here .first) (here .left) done (here .inv .1) (c .if2 .taken),
       ap (indexOf s) (start .pre .all),
     )
 
@@ -80,10 +81,11 @@ returns-2 c =
     let start = c .before .before .before .before in
     let t = start .args .table .now in
     let s = start .args .syndrome in
+    let done = c .before .before .loop-test .left in
     omega (
       arith,
       length-table t (start .pre),
-      search-missed t s (start .pre .ascending) (here .first) (here .left) (c .before .before .loop-test .left) (here .inv .1) (c .if2 .left),
+      search-missed t s (start .pre .ascending) (here .first) (here .left) done (here .inv .1) (c .if2 .left),
       ap (indexOf s) (start .pre .all),
     )
 
