@@ -18,4 +18,5 @@ pub mod Vector
 pub mod Listing
 pub mod Trail
 pub mod Root
+pub mod GeneratorRoots
 pub mod Distance

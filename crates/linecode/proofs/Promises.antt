@@ -30,7 +30,8 @@ use Rattle.linecode.proofs.Bytes.{length-bitsOf}
 use Rattle.linecode.proofs.Line.{protected-is, data-is, places-is, places-lineOf}
 use Rattle.register.proofs.Slicing.{length-generator}
 use Rattle.linecode.proofs.Codeword.{length-codeword, length-protected}
-use Rattle.linecode.proofs.Syndrome.{none-zero, none-above, none-exactly, position-named, column-position}
+use Rattle.linecode.proofs.Syndrome.{none-zero, none-above, none-exactly, position-named, power-named, column-position}
+use Rattle.linecode.proofs.Answers.{numbered, hamming-power, place-named}
 use Rattle.linecode.proofs.CorrectTest.{tests}
 use Rattle.linecode.proofs.ReadAlone.{read-clean, read-flip, in-bytes}
 use Rattle.linecode.proofs.Lines.{correct-length, codeword-correct, correct-rewritten, correct-accepted, correct-syndrome, near, correct-apart, accepted-correct, correct-xor}
@@ -228,4 +229,10 @@ promises =
       spare = spare;
       only = only;
       none = none;
+      numbered = λ s h. numbered s (omega arith);
+      powers = λ s k. (
+        λ e. (omega (arith, hamming-power s k e .0), hamming-power s k e .1),
+        λ p. ap answerTo (p .1) ∙ power-named k (omega arith),
+      );
+      named = λ s l h. place-named s (omega arith) (omega arith);
     }

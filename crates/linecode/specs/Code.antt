@@ -2,9 +2,9 @@
 use mathlib.Core.Path.{_≡_}
 use mathlib.Core.Bool.{Bool, true, false, not, _||_, cond}
 use mathlib.Core.List.{List, [], _∷_, _++_, map}
-use Prim.Native.Nat.{ℕ, zero, suc, _+_, _-_, _^_}
+use Prim.Native.Nat.{ℕ, zero, suc, _+_, _-_, _^_, _<_}
 use lib.Dec.{eqb, ltb}
-use lib.ListN.{take, drop, getD}
+use lib.ListN.{length, take, drop, getD}
 use Rattle.gf2.specs.Word.{Word, same}
 use Rattle.gf2.specs.Check.{divisible, crc, hammingBit, columnSum}
 use Rattle.gf2.specs.Generator.{generator}
@@ -49,6 +49,12 @@ hammingColumns = map (λ k. 2 ^ k) (upFrom 0 hammingPlaces)
 unfoldable pub positions : List ℕ
 unfolding hammingColumns hammingPlaces
 positions = without hammingColumns (upFrom 3 551)
+
+-- the rule of a table of the positions: it has them all, ascending and without powers of two
+pub record PositionTable (table : List ℕ) : Type 0 where
+  pub all : table ≡ positions
+  pub ascending : (i j : ℕ) → i < j → j < length table → getD table i 0 < getD table j 0
+  pub no-power : (i k : ℕ) → i < length table → getD table i 0 ≡ 2 ^ k → ⊥
 
 -- Hamming bit k is the parity of the protected places whose position has bit k
 unfoldable pub hamming : Word → Word

@@ -3,19 +3,19 @@ use mathlib.Core.Path.{_≡_}
 use mathlib.Core.Logic.{_⊎_, _↔_}
 use mathlib.Core.Bool.{true, false}
 use mathlib.Core.List.{List, [], _++_}
-use Prim.Native.Nat.{ℕ, _/_, _%_, _≤_, _<_}
+use Prim.Native.Nat.{ℕ, _/_, _%_, _^_, _≤_, _<_}
 use lib.Dec.{T}
 use lib.ListN.{length, take, getD, replicate}
 use Rattle.gf2.specs.Word.{Word, _⊕_, zeros, distance}
 use Rattle.gf2.specs.Check.{bit, divisible, crc}
 use Rattle.gf2.specs.Generator.{generator}
 use Rattle.linecode.specs.Places.{linePlaces, lineBytes, bitsOf, loaded, places, lineOf, xorBytes}
-use Rattle.linecode.specs.Code.{dataOf, codeword, Correct, isCorrect, answerTo}
+use Rattle.linecode.specs.Code.{dataOf, codeword, Correct, isCorrect, columns, answerTo, syndromeOf, placeOf}
 use Rattle.linecode.specs.Reading.{Read, readAlone}
 use Rattle.linecode.specs.Entry.{written, reading}
 use Rattle.linecode.specs.declared.alone.Reading.{Reading}
 use Rattle.linecode.specs.declared.hamming.Answer.{Answer}
-use Rattle.linecode.specs.declared.hamming.Answer.the-variants.{None}
+use Rattle.linecode.specs.declared.hamming.Answer.the-variants.{None, Hamming}
 
 -- how a line's bytes and its places stand to one another
 pub record Layout : Type 0 where
@@ -79,3 +79,9 @@ pub record Promises : Type 0 where
       → T (divisible generator (data′ ++ check)) ↔ (check ≡ crc generator data′)
   -- none is answered to a syndrome of 0 and above 553, and to no other
   pub none : (s : ℕ) → (answerTo s ≡ None) ↔ ((s ≡ 0) ⊎ (553 < s))
+  -- a syndrome up to 553 is the number of what it answers; that of none is 0
+  pub numbered : (s : ℕ) → s ≤ 553 → syndromeOf (answerTo s) ≡ s
+  -- Hamming place k is answered to 2^k, and to no other syndrome
+  pub powers : (s k : ℕ) → (answerTo s ≡ Hamming k) ↔ ((k < 10) × (s ≡ 2 ^ k))
+  -- the place that a syndrome from 1 to 553 names has that number
+  pub named : (s : ℕ) → 1 ≤ s → s ≤ 553 → getD columns (placeOf (answerTo s)) 0 ≡ s

@@ -1,10 +1,9 @@
 // The Hamming bits of a line: positions, the bits that it holds, and the place that a syndrome names.
 ghost use mathlib.Core.Path.{_≡_};
-ghost use lib.ListN.{getD};
 ghost use Rattle.gf2.specs.Word.{number};
 ghost use Rattle.gf2.specs.Check.{columnSum};
 ghost use Rattle.linecode.specs.Places.{places, lineOf};
-ghost use Rattle.linecode.specs.Code.{protected, positions, withHamming, storedHamming, answerTo};
+ghost use Rattle.linecode.specs.Code.{protected, positions, PositionTable, withHamming, storedHamming, indexOf, answerTo};
 
 // The position of each protected place: ascending from 3, without the powers of two.
 const POSITIONS: [u16; 543] = [
@@ -560,17 +559,6 @@ pub enum Answer {
     Protected(usize),
 }
 
-// The position of protected place i, by the table; 0 past the last. The sum of positions goes by whole words instead.
-pub fn position(i: usize) -> u16
-    ensures { λ r. ⌜ r ≡ getD positions i 0 ⌝ }
-{
-    if 543 <= i {
-        return 0;
-    }
-    let positions = POSITIONS;
-    positions[i]
-}
-
 // The Hamming bits that a line holds.
 pub fn stored(line: [u8; 70]) -> u16
     ensures { λ r. ⌜ r ≡ number (storedHamming (places line)) ⌝ }
@@ -578,26 +566,48 @@ pub fn stored(line: [u8; 70]) -> u16
     (line[68] as u16) + 256 * ((line[69] % 4) as u16)
 }
 
-// The place that a syndrome names. Below it stand as many powers of two as it has bits.
+// Where a syndrome stands in the table of positions, by halving what is left to search; 543 where it does not.
+fn place_in(table: &[u16; 543], syndrome: u16) -> usize
+    requires { ⌜ PositionTable (now table) ⌝ }
+    ensures { λ r. ⌜ r ≡ indexOf syndrome positions ⌝ }
+{
+    let mut first: usize = 0;
+    let mut left: usize = 543;
+    while 1 < left {
+        let half = left / 2;
+        if table[first + half] <= syndrome {
+            first += half;
+        }
+        left -= half;
+    }
+    if table[first] == syndrome {
+        return first;
+    }
+    543
+}
+
+// What a syndrome answers: the protected place whose position it is, the Hamming bit whose power of two it is, or none.
 pub fn answer_to(syndrome: u16) -> Answer
     ensures { λ r. ⌜ r ≡ answerTo syndrome ⌝ }
 {
-    if syndrome == 0 {
-        return Answer::None;
-    }
     if 553 < syndrome {
         return Answer::None;
     }
+    let table = POSITIONS;
+    let place = place_in(&table, syndrome);
+    if place < 543 {
+        return Answer::Protected(place);
+    }
     let mut power: u16 = 1;
-    let mut k: u16 = 0;
-    while power < syndrome {
+    let mut k: usize = 0;
+    while k < 10 {
+        if power == syndrome {
+            return Answer::Hamming(k);
+        }
         power = 2 * power;
         k += 1;
     }
-    if power == syndrome {
-        return Answer::Hamming(k as usize);
-    }
-    Answer::Protected((syndrome - k - 1) as usize)
+    Answer::None
 }
 
 // The protected places with the sum of their positions as Hamming bits, spare bits 0. Public for the crates above, which have the sum.

@@ -1,34 +1,53 @@
--- `linecode::hamming::answer_to` meets its contract. The loop seeks the least power of two that reaches the syndrome.
-use mathlib.Core.Path.{_≡_, sym, ap, ap₂, _∙_, subst}
-use mathlib.Core.Bool.{Bool, cond}
-use Prim.Native.Nat.{ℕ, _-_, _^_, _≤_, _<_}
+-- `linecode::hamming::answer_to` meets its contract: the table is that of the positions, by the computed test of its rule, and the loop
+-- passes the powers of two that the syndrome is not.
+use mathlib.Core.Path.{_≡_, refl, sym, ap, _∙_}
+use Prim.Native.Nat.{ℕ, _+_, _*_, _-_, _^_, _≤_, _<_}
+use native.Mathlib.Nat.{not-suc-le-zero, pow-suc, mul-comm}
+use native.Mathlib.Numerals.{add-one}
 use native.Mathlib.Omega.{arith}
-use borrow.Author.Needs.{needs}
-use borrow.Author.Tests.{eq-eqb, ne-eqb}
-use Rattle.linecode.specs.declared.hamming.Answer.{Answer}
-use Rattle.linecode.specs.declared.hamming.Answer.the-variants.{None, Hamming, Protected}
-use Rattle.linecode.specs.Code.{answerTo}
-use Rattle.linecode.proofs.Syndrome.{none-zero, none-above, answer-by-log, log-below, byLog, logOf, Seeking, seek-start, seek-next, seek-end}
+use borrow.Author.Count.{below-more}
+use lib.Pow.{pow-lt}
+use Rattle.linecode.specs.Places.{hammingPlaces}
+use Rattle.linecode.specs.Code.{answerTo, positions, hammingColumns}
+use Rattle.linecode.proofs.Positions.{position-table}
+use Rattle.linecode.proofs.Syndrome.{none-above, power-named, answer-protected, answer-none}
 use Rattle.linecode.proofs.hamming.answer_to.Statement.{statement}
 use Rattle.linecode.proofs.hamming.answer_to.Tie as tie
 
 abbrev Inv-loop : tie.InvT-loop
-Inv-loop syndrome power₀ k₀ power k = Seeking syndrome power k
+Inv-loop syndrome place power₀ k₀ power k = (k ≤ 10) × (power ≡ 2 ^ k) × ((j : ℕ) → j < k → 2 ^ j ≡ syndrome → ⊥)
 
 abbrev μ-loop : tie.MeasureT-loop
-μ-loop syndrome power₀ k₀ power k = syndrome - power
+μ-loop syndrome place power₀ k₀ power k = 10 - k
+
+power-next : (k : ℕ) → 2 * 2 ^ k ≡ 2 ^ (k + 1)
+power-next k = mul-comm 2 (2 ^ k) ∙ sym (pow-suc 2 k) ∙ ap (λ (j : ℕ). 2 ^ j) (sym (add-one k))
 
 returns : tie.Need-returns Inv-loop μ-loop
-returns c = sym (ap answerTo (c .if1 .taken) ∙ none-zero)
+returns c = sym (none-above (c .before .args .syndrome) (c .if1 .taken))
+
+place-in-requires : tie.Need-place-in-requires Inv-loop μ-loop
+unfolding positions hammingColumns hammingPlaces
+place-in-requires c κs = position-table _ tt
 
 returns-2 : tie.Need-returns-2 Inv-loop μ-loop
-returns-2 c = sym (none-above (c .before .before .args .syndrome) (c .if2 .taken))
+returns-2 c =
+    let called = c .before .place-in in
+    sym (answer-protected (c .before .before .before .before .args .syndrome) (called .result) (called .ensures) (c .if2 .taken))
 
 loop-holds : tie.Need-loop-holds Inv-loop μ-loop
-loop-holds c = seek-start (c .before .before .args .syndrome)
+loop-holds c = (omega arith, refl, λ (j : ℕ) (l : j < 0). absurd (not-suc-le-zero l))
+
+returns-3 : tie.Need-returns-3 Inv-loop μ-loop
+returns-3 c =
+    let here = c .before .before .loop in
+    sym (power-named (here .k) (c .before .loop-test .taken)) ∙ ap answerTo (sym (here .inv .1) ∙ c .if3 .taken)
 
 mul-power : tie.Need-mul-power Inv-loop μ-loop
-mul-power c = omega arith
+mul-power c =
+    let here = c .before .before .loop in
+    let small : 2 ^ here .k < 2 ^ 10 = pow-lt {i = here .k} {j = 10} (c .before .loop-test .taken) in
+    omega (arith, here .inv .1)
 
 add-k : tie.Need-add-k Inv-loop μ-loop
 add-k c = omega arith
@@ -38,63 +57,20 @@ loop-less c = omega arith
 
 loop-again : tie.Need-loop-again Inv-loop μ-loop
 loop-again c =
-    let here = c .before .loop in
-    seek-next (c .before .before .before .before .args .syndrome) (here .power) (here .k)
-    (c .before .before .if2 .left) (c .loop-test .taken) (here .inv)
-
-cast-t6 : tie.Need-cast-t6 Inv-loop μ-loop
-cast-t6 c = omega arith
-
--- the loop's end: the sought k, and what is answered by it
-found : (s power k : ℕ) → (s ≡ 0 → ⊥) → s ≤ 553 → s ≤ power → Seeking s power k → answerTo s ≡ byLog k s
-found s power k z h e i = answer-by-log s (omega arith) h ∙ ap (λ (j : ℕ). byLog j s) (seek-end s power k e i)
-
-below : (s power k : ℕ) → (s ≡ 0 → ⊥) → s ≤ 553 → s ≤ power → (power ≡ s → ⊥) → Seeking s power k → k < s
-below s power k z h e d i =
-    let l = seek-end s power k e i in
-    let p : 2 ^ logOf s ≡ power = ap (λ (j : ℕ). 2 ^ j) l ∙ sym (i .is-power) in
-    omega (arith, log-below s (omega arith) h (λ (q : 2 ^ logOf s ≡ s). d (sym p ∙ q)))
-
-returns-3 : tie.Need-returns-3 Inv-loop μ-loop
-returns-3 c =
     let here = c .before .before .loop in
-    let s = c .before .before .before .before .before .args .syndrome in
-    sym (found s (here .power) (here .k) (c .before .before .before .before .if1 .left) (c .before .before .before .if2 .left)
-    (c .before .loop-test .left) (here .inv)
-    ∙ ap (λ (b : Bool). cond b (Hamming (here .k)) (Protected (s - here .k - 1)))
-    (eq-eqb (2 ^ here .k) s (sym (here .inv .is-power) ∙ c .if3 .taken)))
-
-sub-t7 : tie.Need-sub-t7 Inv-loop μ-loop
-sub-t7 c =
-    let here = c .before .before .loop in
-    omega (
-      arith,
-      below (c .before .before .before .before .before .args .syndrome) (here .power) (here .k)
-          (c .before .before .before .before .if1 .left) (c .before .before .before .if2 .left)
-          (c .before .loop-test .left) (c .if3 .left) (here .inv),
+    let inv = here .inv in (
+      omega arith,
+      ap (λ (n : ℕ). 2 * n) (inv .1) ∙ power-next (here .k),
+      below-more _ (here .k) (inv .2) (λ q. c .if3 .left (inv .1 ∙ q)),
     )
-
-sub-t8 : tie.Need-sub-t8 Inv-loop μ-loop
-sub-t8 c =
-    let here = c .before .before .loop in
-    omega (
-      arith,
-      below (c .before .before .before .before .before .args .syndrome) (here .power) (here .k)
-          (c .before .before .before .before .if1 .left) (c .before .before .before .if2 .left)
-          (c .before .loop-test .left) (c .if3 .left) (here .inv),
-    )
-
-cast-t9 : tie.Need-cast-t9 Inv-loop μ-loop
-cast-t9 c = omega arith
 
 returns-4 : tie.Need-returns-4 Inv-loop μ-loop
 returns-4 c =
-    let here = c .before .before .loop in
-    let s = c .before .before .before .before .before .args .syndrome in
-    sym (found s (here .power) (here .k) (c .before .before .before .before .if1 .left) (c .before .before .before .if2 .left)
-    (c .before .loop-test .left) (here .inv)
-    ∙ ap (λ (b : Bool). cond b (Hamming (here .k)) (Protected (s - here .k - 1)))
-    (ne-eqb (2 ^ here .k) s (λ (q : 2 ^ here .k ≡ s). c .if3 .left (here .inv .is-power ∙ q))))
+    let here = c .before .loop in
+    let called = c .before .before .before .place-in in
+    let all : here .k ≡ 10 = omega arith in
+    sym (answer-none (c .before .before .before .before .before .before .args .syndrome) (called .result) (called .ensures)
+    (c .before .before .if2 .left) (λ (j : ℕ) (l : j < 10). here .inv .2 j (omega arith)))
 
 pub answer-to-spec : {M : Type 1} → statement M
 answer-to-spec =
@@ -103,15 +79,12 @@ answer-to-spec =
     Inv-loop
     μ-loop
     returns
+    place-in-requires
     returns-2
     loop-holds
+    returns-3
     mul-power
     add-k
     loop-less
     loop-again
-    cast-t6
-    returns-3
-    sub-t7
-    sub-t8
-    cast-t9
     returns-4)
