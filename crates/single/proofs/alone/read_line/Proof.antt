@@ -43,7 +43,7 @@ with-checks-requires c κs =
     let worked = summed .before .before in (
       worked .of-data .ensures,
       summed .sum-with .ensures
-      ∙ ap (λ (n : ℕ). columnSum positions (bitsOf (take 64 (worked .before .args .line)) ++ digits 32 n)) (sym (c .if1 .taken)),
+          ∙ ap (λ (n : ℕ). columnSum positions (bitsOf (take 64 (worked .before .args .line)) ++ digits 32 n)) (sym (c .if1 .taken)),
     )
 
 returns : tie.Need-returns
