@@ -11,12 +11,10 @@ use lib.Seq.{paste}
 use Rattle.gf2.specs.Word.{Word}
 use Rattle.linecode.specs.Places.{dataBytes, lineBytes, places, lineOf, loaded}
 use Rattle.linecode.specs.Code.{dataOf, codeword}
-use Rattle.linecode.specs.Entry.{written, reading, ifFaulty}
+use Rattle.linecode.specs.Entry.{written, reading}
 use Rattle.linecode.specs.declared.alone.Reading.{Reading}
-use Rattle.linecode.specs.declared.Written.{Written}
-use Rattle.linecode.specs.declared.Answered.{Answered}
 use Rattle.linecode.proofs.Loading.{copy-step, copied-over, data-loaded, loaded-whole}
-use Rattle.capi.specs.Single.{writeRefusal, readRefusal, writeLine, readLine}
+use Rattle.capi.specs.Single.{Written, Answered, ifFaulty, writeRefusal, readRefusal, writeLine, readLine}
 
 -- ---- storing a line
 -- the last six bytes over those of the buffer, one by one

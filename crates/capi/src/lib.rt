@@ -4,12 +4,10 @@ use linecode::place;
 use single::alone;
 ghost use mathlib.Core.Path.{_≡_};
 ghost use lib.ListN.{length};
-ghost use Rattle.linecode.specs.declared.Written.{Written};
-ghost use Rattle.linecode.specs.declared.Answered.{Answered};
 ghost use Rattle.rectangle.specs.Tables.{TablesMade, makeTables};
 ghost use Rattle.rectangle.specs.Change.{LineChanged, changeLine};
 ghost use Rattle.rectangle.specs.Repair.{StoreRepaired, repairStore};
-ghost use Rattle.capi.specs.Single.{writeLine, readLine};
+ghost use Rattle.capi.specs.Single.{Written, writeLine, Answered, readLine};
 
 // A line put into a buffer of its length. The data and the six bytes after them go apart: a processor waits where a load takes in bytes of
 // two stores, and these six were stored by themselves.

@@ -4,17 +4,15 @@ use mathlib.Core.Bool.{Bool, true, false}
 use mathlib.Core.List.{List, [], _∷_, _++_}
 use types.Run.{OneOf, miss}
 use denote.Enum.Declared.{tagOf}
-use Prim.Native.Nat.{ℕ, _+_}
-use native.Mathlib.Omega.{arith}
+use Prim.Native.Nat.{ℕ}
 use lib.Bits.{bitXor}
 use lib.Dec.{T}
 use lib.ListN.{length, take}
-use lib.Seq.{take-append-add}
 use Rattle.gf2.specs.Word.{Word, digits, number}
 use Rattle.gf2.specs.Check.{columnSum}
 use Rattle.gf2.proofs.Digits.{digits-number}
 use Rattle.register.proofs.Slicing.{length-generator}
-use Rattle.linecode.specs.Places.{protectedPlaces, bitsOf, places, lineOf}
+use Rattle.linecode.specs.Places.{bitsOf, places, lineOf}
 use Rattle.linecode.specs.Code.{protected, dataOf, storedCrc, storedHamming, accepted, positions, withHamming, codeword, syndrome, answerTo}
 use Rattle.linecode.specs.Reading.{afterFlip, corrected, firstLook, readAlone}
 use Rattle.linecode.specs.Entry.{reading}
@@ -22,10 +20,8 @@ use Rattle.linecode.specs.declared.alone.Reading.{Reading}
 use Rattle.linecode.specs.declared.hamming.Answer.{Answer}
 use Rattle.linecode.specs.declared.hamming.Answer.the-variants.{None, Hamming, Protected}
 use Rattle.linecode.proofs.hamming.Answer.{the-type}
-use Rattle.linecode.proofs.Line.{protected-is, data-is, dataOf-line, length-places}
-use Rattle.linecode.proofs.Positions.{length-positions}
-use Rattle.linecode.proofs.WordBytes.{sum-take}
-use Rattle.linecode.proofs.Codeword.{length-dataOf, length-storedCrc, protected-parts, accepted-written}
+use Rattle.linecode.proofs.Line.{dataOf-line, length-places}
+use Rattle.linecode.proofs.Codeword.{length-dataOf, length-storedCrc, protected-parts, accepted-written, without-spare}
 use Rattle.linecode.proofs.Syndrome.{syndrome-parts}
 use Rattle.linecode.proofs.ReadAlone.{read-clean, in-bytes}
 use Rattle.single.specs.Corrector.{corrector}
@@ -69,22 +65,14 @@ module _ (l : List ℕ) (whole : length l ≡ 70) (stored : ℕ) (e : stored ≡
       (sym (length-storedCrc (places l) (length-places l whole) ∙ length-generator))
       ∙ digits-number (storedCrc (places l))
 
-  -- the data and the CRC that a line holds are its protected places; bit 31 is past the last position
+  -- the data and the CRC that a line holds are its protected places
   protected-sum : columnSum positions (bitsOf (take 64 l) ++ digits 32 stored) ≡ columnSum positions (protected (places l))
   protected-sum =
+      let d = dataOf (places l) in
+      let full = length-places l whole in
       ap (λ (w : Word). columnSum positions (w ++ digits 32 stored)) (sym (dataOf-line l whole))
-      ∙ sym (sum-take protectedPlaces positions (d ++ digits 32 stored) (omega (arith, length-positions, protected-is)))
-      ∙ ap (columnSum positions)
-      (ap (λ (n : ℕ). take n (d ++ digits 32 stored)) count
-      ∙ take-append-add d (digits 32 stored) 31
-      ∙ ap (λ (w : Word). d ++ w) held
-      ∙ sym (protected-parts (places l) (length-places l whole)))
-    where
-      d : Word
-      d = dataOf (places l)
-
-      count : protectedPlaces ≡ length d + 31
-      count = omega (arith, protected-is, data-is, length-dataOf (places l) (length-places l whole))
+      ∙ without-spare d stored (length-dataOf (places l) full)
+      ∙ ap (columnSum positions) (ap (λ (w : Word). d ++ w) held ∙ sym (protected-parts (places l) full))
 
   -- the sum of positions and the Hamming bits that a line holds give its syndrome
   pub held-syndrome : (sum bits : ℕ) → sum ≡ columnSum positions (bitsOf (take 64 l) ++ digits 32 stored)

@@ -1,7 +1,6 @@
 -- `single::alone::corrected` meets its contract: the place that is named is flipped, or none.
-use native.Mathlib.Omega.{arith}
 use borrow.Author.Needs.{needs}
-use mathlib.Core.Path.{_≡_, sym, ap, _∙_}
+use mathlib.Core.Path.{sym, ap, _∙_}
 use Rattle.linecode.specs.Places.{places}
 use Rattle.linecode.specs.declared.hamming.Answer.{Answer}
 use Rattle.linecode.proofs.Bytes.{array-length}

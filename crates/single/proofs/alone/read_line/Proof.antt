@@ -1,5 +1,4 @@
 -- `single::alone::read_line` meets its contract: each way out is a case of reading alone.
-use native.Mathlib.Omega.{arith}
 use borrow.Author.Needs.{needs}
 use borrow.Author.Tests.{eq-eqb, ne-eqb}
 use mathlib.Core.Path.{_≡_, sym, ap, _∙_}
