@@ -15,8 +15,8 @@ ghost use Rattle.linecode.specs.Code.{dataOf, positions, codeword, answerTo, is
 ghost use Rattle.linecode.specs.Entry.{reading};
 ghost use Rattle.single.specs.Corrector.{corrector};
 
-// The data of a line, their CRC and their Hamming bits, which are given as numbers. Bytes 64 to 69 are stored as these alone, so that nothing
-// that was just stored is read back.
+// The data of a line, their CRC and their Hamming bits, which are given as numbers: bytes 64 to 69 are stored as these alone, so that
+// nothing that was just stored is read back.
 fn with_checks(line: [u8; 70], check: u32, sum: u16) -> [u8; 70]
     requires { ⌜ (check ≡ number (crc generator (dataOf (places line))))
         × (sum ≡ columnSum positions (bitsOf (take 64 line) ++ digits 32 check)) ⌝ }
