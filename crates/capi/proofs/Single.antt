@@ -2,15 +2,33 @@
 use mathlib.Core.Path.{_≡_, sym, ap, ap₂, _∙_}
 use mathlib.Core.Bool.{Bool, cond}
 use mathlib.Core.List.{List}
-use Prim.Native.Nat.{ℕ}
+use Prim.Native.Nat.{ℕ, _+_, _≤_, _<_}
+use native.Mathlib.Omega.{arith}
 use borrow.Author.Tests.{eq-eqb, ne-eqb}
-use lib.Dec.{eqb}
-use lib.ListN.{length}
-use Rattle.linecode.specs.Places.{dataBytes, lineBytes}
-use Rattle.linecode.specs.Entry.{written, reading, ifFaulty}
-use Rattle.linecode.specs.declared.Written.{Written}
-use Rattle.linecode.specs.declared.Answered.{Answered}
-use Rattle.capi.specs.Single.{writeRefusal, readRefusal, writeLine, readLine}
+use lib.Dec.{T, eqb, ltb, ltb→lt}
+use lib.ListN.{length, getD, set}
+use lib.Seq.{paste}
+use Rattle.gf2.specs.Word.{Word}
+use Rattle.linecode.specs.Places.{dataBytes, lineBytes, places, lineOf, loaded}
+use Rattle.linecode.specs.Code.{dataOf, codeword}
+use Rattle.linecode.specs.Entry.{written, reading}
+use Rattle.linecode.specs.declared.alone.Reading.{Reading}
+use Rattle.linecode.proofs.Loading.{copy-step, copied-over, data-loaded, loaded-whole}
+use Rattle.capi.specs.Single.{Written, Answered, ifFaulty, writeRefusal, readRefusal, writeLine, readLine}
+
+-- ---- storing a line
+-- the last six bytes over those of the buffer, one by one
+pub last-six : (d s l : List ℕ) (i : ℕ) → length d ≡ 70 → length s ≡ 70 → i ≤ 64 → 64 ≤ i → l ≡ paste d 0 s i
+    → set (set (set (set (set (set l 64 (getD s 64 0)) 65 (getD s 65 0)) 66 (getD s 66 0)) 67 (getD s 67 0)) 68 (getD s 68 0)) 69
+    (getD s 69 0)
+    ≡ s
+last-six d s l i e f h k q = copied-over d s _ 70 70 e f (omega arith) (omega arith) (put 69 tt (put 68 tt (put 67 tt (put 66 tt (put 65 tt (put 64 tt start))))))
+  where
+    start : l ≡ paste d 0 s 64
+    start = let all : i ≡ 64 = omega arith in q ∙ ap (paste d 0 s) all
+
+    put : {m : List ℕ} (j : ℕ) → T (ltb j 70) → m ≡ paste d 0 s j → set m j (getD s j 0) ≡ paste d 0 s (j + 1)
+    put {m} j t r = let h : j < 70 = ltb→lt j 70 t in copy-step d s m j (omega arith) (omega arith) r
 
 -- ---- writing
 module _ (payload line : List ℕ) where
@@ -27,6 +45,11 @@ module _ (payload line : List ℕ) where
   pub write-no-room : length payload ≡ 64 → (length line ≡ 70 → ⊥) → writeRefusal payload line ≡ 7
   unfolding writeRefusal dataBytes lineBytes
   write-no-room e h = rw (eq-eqb (length payload) 64 e, ne-eqb (length line) 70 h)
+
+  -- what is written from the data as they were loaded
+  pub written-loaded : (l x : List ℕ) → length payload ≡ 64 → l ≡ loaded payload → x ≡ lineOf (codeword (dataOf (places l))) → x ≡ written payload
+  unfolding written
+  written-loaded l x e q f = f ∙ ap (λ (w : Word). lineOf (codeword w)) (data-loaded payload l e q)
 
   pub write-given : (l : List ℕ) → length payload ≡ 64 → length line ≡ 70 → l ≡ written payload
       → _≡_ {A = Written} (record { answer = 0; line = l }) (writeLine payload line)
@@ -49,6 +72,10 @@ module _ (line out : List ℕ) where
   pub read-no-room : length line ≡ 70 → (length out ≡ 70 → ⊥) → readRefusal line out ≡ 7
   unfolding readRefusal lineBytes
   read-no-room e h = rw (eq-eqb (length line) 70 e, ne-eqb (length out) 70 h)
+
+  -- what is read of the line as it was loaded
+  pub read-loaded : (l : List ℕ) (r : Reading) → length line ≡ 70 → l ≡ loaded line → r ≡ reading l → r ≡ reading line
+  read-loaded l r e q f = f ∙ ap reading (q ∙ loaded-whole line e)
 
   -- what was read, with the answer that its mark gives
   pub read-given : (a : ℕ) (l : List ℕ) (m : ℕ) → length line ≡ 70 → length out ≡ 70 → l ≡ reading line .line → m ≡ reading line .mark

@@ -1,12 +1,32 @@
 // The C interface: the entry points over slices and numbers, for programs in other languages to link.
 // In C a slice is a pointer and a length, and the mark and the passes are returned through a pointer.
+use linecode::place;
+use single::alone;
 ghost use mathlib.Core.Path.{_≡_};
-ghost use Rattle.linecode.specs.declared.Written.{Written};
-ghost use Rattle.linecode.specs.declared.Answered.{Answered};
+ghost use lib.ListN.{length};
 ghost use Rattle.rectangle.specs.Tables.{TablesMade, makeTables};
 ghost use Rattle.rectangle.specs.Change.{LineChanged, changeLine};
 ghost use Rattle.rectangle.specs.Repair.{StoreRepaired, repairStore};
-ghost use Rattle.capi.specs.Single.{writeLine, readLine};
+ghost use Rattle.capi.specs.Single.{Written, writeLine, Answered, readLine};
+
+// A line put into a buffer of its length. The data and the six bytes after them go apart: a processor waits where a load takes in bytes of
+// two stores, and these six were stored by themselves.
+fn store(line: [u8; 70], out: &mut [u8])
+    requires { ⌜ length (now out) ≡ 70 ⌝ }
+    ensures { λ _. ⌜ now (out .exit) ≡ line ⌝ }
+{
+    let mut i = 0;
+    while i < 64 {
+        out[i] = line[i];
+        i += 1;
+    }
+    out[64] = line[64];
+    out[65] = line[65];
+    out[66] = line[66];
+    out[67] = line[67];
+    out[68] = line[68];
+    out[69] = line[69];
+}
 
 // A line written from 64 data bytes into `line`.
 #[no_mangle]
@@ -16,13 +36,14 @@ pub extern "C" fn sudoku_write_line(payload: &[u8], line: &mut [u8]) -> u32
         (writeLine (now (payload .entry)) (now (line .entry))) ⌝ }
 {
     if payload.len() != 64 {
-        return 7;
+        return 7; // the data
     }
     let room = line.len();
     if room != 70 {
-        return 7;
+        return 7; // the buffer
     }
-    single::alone::write_into(payload, line);
+    let written = alone::rewrite(place::load(payload));
+    store(written, line);
     0
 }
 
@@ -40,9 +61,11 @@ pub extern "C" fn sudoku_read_line(line: &[u8], out: &mut [u8], mark: &mut u8) -
     if out.len() != 70 {
         return 7;
     }
-    let m = single::alone::read_into(line, out);
-    *mark = m;
-    if m == 4 {
+    let read = alone::read_line(place::load(line));
+    let given = read.line;
+    store(given, out);
+    *mark = read.mark;
+    if read.mark == 4 {
         return 10;
     }
     0

@@ -6,7 +6,7 @@ use Prim.Native.Nat.{ℕ, zero, suc, _+_, _-_, _/_, _%_, _^_, _≤_, _<_}
 use native.Mathlib.Omega.{arith}
 use lib.Dec.{T, eqb}
 use lib.ListN.{length, take, drop, length-append, length-drop, take-append-drop}
-use lib.Seq.{length-take-le, take-all, take-take, take-at, drop-at, take-append-add, sets}
+use lib.Seq.{length-take-le, take-take, take-at, drop-at, take-append-add, sets}
 use Rattle.gf2.specs.Word.{Word, digits, number, same}
 use Rattle.gf2.specs.Check.{divisible, crc, columnSum}
 use Rattle.gf2.specs.Generator.{generator}
@@ -16,7 +16,7 @@ use Rattle.gf2.proofs.Crc.{length-crc, divisible-crc}
 use Rattle.linecode.specs.Places.{dataPlaces, protectedPlaces, linePlaces, bitsOf, places, lineOf}
 use Rattle.linecode.specs.Code.{protected, dataOf, storedCrc, storedHamming, accepted, positions, hamming, withCrc, withHamming, codeword, isCorrect, Correct}
 use Rattle.linecode.proofs.Bytes.{Bytes}
-use Rattle.linecode.proofs.Line.{protected-is, data-is, places-is, dataOf-line, protected-lineOf, length-places}
+use Rattle.linecode.proofs.Line.{protected-is, data-is, places-is, dataOf-line, length-places}
 use Rattle.linecode.proofs.Positions.{length-positions, hamming-digits, withHamming-digits, position-sum-lt}
 use Rattle.linecode.proofs.Stores.{stored-all}
 use Rattle.linecode.proofs.WordBytes.{sum-take}
@@ -127,13 +127,6 @@ module _ (d : Word) (full : length d ≡ dataPlaces) where
       ∙ ap₂ _+_ (full ∙ data-is) (length-crc generator d ∙ length-generator)
       ∙ sym protected-is
 
-  -- the data and the CRC come back from the line that holds them alone
-  pub protected-withCrc : (l : List ℕ) → l ≡ lineOf (withCrc d) → protected (places l) ≡ withCrc d
-  protected-withCrc l e =
-      ap (λ (x : List ℕ). protected (places x)) e
-      ∙ protected-lineOf (withCrc d) (omega (arith, length-withCrc, protected-is)) (omega (arith, length-withCrc, protected-is))
-      ∙ take-all protectedPlaces (withCrc d) (omega (arith, length-withCrc))
-
   pub length-codeword : length (codeword d) ≡ linePlaces
   unfolding codeword withHamming
   length-codeword =
@@ -164,7 +157,7 @@ crc-agrees l worked stored e f g =
 
 -- ---- the CRC and the sum of positions, both worked out from the data alone, stored after them
 -- bit 31 of a register is past the last position
-without-spare : (d : Word) (r : ℕ) → length d ≡ dataPlaces
+pub without-spare : (d : Word) (r : ℕ) → length d ≡ dataPlaces
     → columnSum positions (d ++ digits 32 r) ≡ columnSum positions (d ++ digits 31 r)
 without-spare d r e =
     sym (sum-take protectedPlaces positions (d ++ digits 32 r) (omega (arith, length-positions, protected-is)))

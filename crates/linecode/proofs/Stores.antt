@@ -195,12 +195,6 @@ module _ (l : List ℕ) (whole : length l ≡ 70) (bytes : Bytes l) where
           ∙ append-assoc (bitsOf (take 64 l)) (bitsOf (x ∷ y ∷ z ∷ [])) (digits 7 (r / 16777216))))
           ∙ append-assoc (bitsOf p) (digits 7 (r / 16777216)) t
 
-  -- with no Hamming bits
-  pub stored-crc : (r : ℕ) → r < 2147483648
-      → sets l 64 (r % 256 ∷ r / 256 % 256 ∷ r / 65536 % 256 ∷ r / 16777216 % 256 ∷ 0 ∷ 0 ∷ [])
-      ≡ lineOf (dataOf (places l) ++ digits 31 r)
-  stored-crc r h = stored-both r [] 0 0 h refl ∙ ap lineOf (append-nil (dataOf (places l) ++ digits 31 r))
-
   -- with ten bits of a number as the Hamming bits
   pub stored-all : (r s : ℕ) → r < 2147483648 → s < 1024
       → sets l 64 (r % 256 ∷ r / 256 % 256 ∷ r / 65536 % 256 ∷ r / 16777216 % 256 ∷ s % 256 ∷ s / 256 ∷ [])

@@ -4,4 +4,3 @@ pub mod Code
 pub mod Reading
 pub mod Entry
 pub mod Promises
-pub mod Corrector

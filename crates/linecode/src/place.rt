@@ -1,7 +1,7 @@
 // The places of a line in its 70 bytes: spare bits, exclusive or, a place turned over.
 ghost use mathlib.Core.Bool.{false};
 ghost use mathlib.Core.Path.{_≡_};
-ghost use lib.ListN.{length, getD};
+ghost use lib.ListN.{getD};
 ghost use Rattle.gf2.specs.Word.{_⊕_, flip};
 ghost use Rattle.linecode.specs.Places.{places, lineOf, loaded, xorBytes};
 
@@ -20,19 +20,6 @@ pub fn load(s: &[u8]) -> [u8; 70]
         i += 1;
     }
     line
-}
-
-// A line put into a buffer of its length. Bytes that change are stored over it there: a line patched on the stack and copied at once
-// would make the processor wait. Public for the crates above, which have tested the length.
-pub fn store(line: [u8; 70], out: &mut [u8])
-    requires { ⌜ length (now out) ≡ 70 ⌝ }
-    ensures { λ _. ⌜ now (out .exit) ≡ line ⌝ }
-{
-    let mut i = 0;
-    while i < 70 {
-        out[i] = line[i];
-        i += 1;
-    }
 }
 
 // The line with its spare bits 0.

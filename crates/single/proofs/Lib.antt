@@ -1,4 +1,4 @@
--- Laws of the tables that are compiled in, of the loop over them, and of the entry points.
+-- Laws of the tables that are compiled in, of the loop over them, and of the looks at a line.
 pub mod Compiled
 pub mod Steps
-pub mod Entry
+pub mod Looks

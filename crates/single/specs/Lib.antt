@@ -1,1 +1,2 @@
+pub mod Corrector
 pub mod Paired

@@ -1,85 +1,73 @@
 // Writing a line, and reading one alone (document 000, III-C).
 use crate::crc;
-use crate::tables;
 use linecode::alone::Reading;
 use linecode::hamming;
 use linecode::hamming::Answer;
 use linecode::place;
 ghost use mathlib.Core.Path.{_≡_};
-ghost use mathlib.Core.Bool.{false};
-ghost use lib.ListN.{length, take};
-ghost use Rattle.register.specs.Slices.{after};
-ghost use Rattle.linecode.specs.Places.{places, lineOf};
-ghost use Rattle.linecode.specs.Code.{dataOf, codeword, accepted, isCorrect};
-ghost use Rattle.linecode.specs.Reading.{readAlone};
-ghost use Rattle.linecode.specs.Corrector.{afterCorrector};
-ghost use Rattle.linecode.specs.Entry.{written, reading};
+ghost use mathlib.Core.List.{_++_};
+ghost use lib.ListN.{take};
+ghost use Rattle.gf2.specs.Word.{digits, number};
+ghost use Rattle.gf2.specs.Check.{crc, columnSum};
+ghost use Rattle.gf2.specs.Generator.{generator};
+ghost use Rattle.linecode.specs.Places.{bitsOf, places, lineOf};
+ghost use Rattle.linecode.specs.Code.{dataOf, positions, codeword, answerTo, isCorrect};
+ghost use Rattle.linecode.specs.Entry.{reading};
+ghost use Rattle.single.specs.Corrector.{corrector};
+
+// The data of a line, their CRC and their Hamming bits, which are given as numbers: bytes 64 to 69 are stored as these alone, so that
+// nothing that was just stored is read back.
+fn with_checks(line: [u8; 70], check: u32, sum: u16) -> [u8; 70]
+    requires { ⌜ (check ≡ number (crc generator (dataOf (places line))))
+        × (sum ≡ columnSum positions (bitsOf (take 64 line) ++ digits 32 check)) ⌝ }
+    ensures { λ r. ⌜ r ≡ lineOf (codeword (dataOf (places line))) ⌝ }
+{
+    let mut whole = line;
+    whole[64] = (check % 256) as u8;
+    whole[65] = (check / 256 % 256) as u8;
+    whole[66] = (check / 65536 % 256) as u8;
+    whole[67] = (check / 16777216 % 256) as u8;
+    whole[68] = (sum % 256) as u8;
+    whole[69] = (sum / 256) as u8;
+    whole
+}
 
 // A line with its CRC and its Hamming bits written afresh from its data.
 pub fn rewrite(line: [u8; 70]) -> [u8; 70]
     ensures { λ r. ⌜ r ≡ lineOf (codeword (dataOf (places line))) ⌝ }
 {
-    wordsums::append(crc::append(line))
+    let worked = crc::of_data(line);
+    with_checks(line, worked, wordsums::sum_with(line, worked))
 }
 
-// A line written from 64 data bytes.
-pub fn write_line(payload: [u8; 64]) -> [u8; 70]
-    ensures { λ r. ⌜ r ≡ written payload ⌝ }
+// The corrector: the line with the protected place flipped that a syndrome names; where it names none, the line as it is.
+fn corrected(line: [u8; 70], syndrome: u16) -> [u8; 70]
+    ensures { λ r. ⌜ places r ≡ corrector (answerTo syndrome) (places line) ⌝ }
 {
-    rewrite(place::load(&payload))
-}
-
-// The codeword of a line's data, whose CRC is known, stored into a buffer of its length. The data go straight into the buffer, and the CRC and
-// the Hamming bits after them there: nothing that was just stored is read back.
-fn store_codeword(bytes: [u8; 70], crc: u32, out: &mut [u8])
-    requires { ⌜ (crc ≡ after 0 (take 64 bytes)) × (length (now out) ≡ 70) ⌝ }
-    ensures { λ _. ⌜ now (out .exit) ≡ lineOf (codeword (dataOf (places bytes))) ⌝ }
-{
-    let positions = wordsums::sum_with(bytes, crc);
-    place::store(bytes, out);
-    out[64] = (crc % 256) as u8;
-    out[65] = (crc / 256 % 256) as u8;
-    out[66] = (crc / 65536 % 256) as u8;
-    out[67] = (crc / 16777216 % 256) as u8;
-    out[68] = (positions % 256) as u8;
-    out[69] = (positions / 256) as u8;
-}
-
-// A line written from 64 data bytes into a buffer of its length. The CRC is worked out from the caller's bytes: a copy that was just made is
-// slow to load from.
-pub fn write_into(payload: &[u8], line: &mut [u8])
-    requires { ⌜ (length (now payload) ≡ 64) × (length (now line) ≡ 70) ⌝ }
-    ensures { λ _. ⌜ now (line .exit) ≡ written (now (payload .entry)) ⌝ }
-{
-    let bytes = place::load(payload);
-    let crc = tables::after_data(payload);
-    store_codeword(bytes, crc, line);
-}
-
-// The protected place whose flip makes a line's word divisible, as the corrector finds it, or 543. A number, so that where a line is
-// read nothing of a hurt line stands in the way of a clean one.
-fn flip_of(line: [u8; 70]) -> usize
-    requires { ⌜ accepted (places line) ≡ false ⌝ }
-    ensures { λ i. ⌜ readAlone (places line) ≡ afterCorrector i (places line) ⌝ }
-{
-    let Answer::Protected(i) = hamming::answer_to(wordsums::syndrome_of(line)) else {
-        return 543;
+    let Answer::Protected(i) = hamming::answer_to(syndrome) else {
+        return line;
     };
-    if crc::agrees(place::flip_place(line, i)) {
-        return i;
-    }
-    543
+    place::flip_place(line, i)
 }
 
-// A line whose protected word is not divisible, read alone: the corrector, then the CRC compared once more.
-fn read_hurt(line: [u8; 70]) -> Reading
-    requires { ⌜ accepted (places line) ≡ false ⌝ }
+// A line read alone: the CRC compared, and where it differs the corrector, then the CRC compared once more. The sum of positions serves a
+// clean line as its Hamming bits, a hurt one for its syndrome; it stands before the test, where LLVM reads the line without a copy.
+pub fn read_line(line: [u8; 70]) -> Reading
     ensures { λ r. ⌜ r ≡ reading line ⌝ }
 {
-    let i = flip_of(line);
-    if i < 543 {
+    let worked = crc::of_data(line);
+    let stored = linecode::crc::stored(line);
+    let sum = wordsums::sum_with(line, stored);
+    if worked == stored {
         return Reading {
-            line: wordsums::append(place::flip_place(line, i)),
+            line: with_checks(line, worked, sum),
+            mark: 0,
+        };
+    }
+    let turned = corrected(line, sum ^ hamming::stored(line));
+    if crc::agrees(turned) {
+        return Reading {
+            line: wordsums::append(turned),
             mark: 1,
         };
     }
@@ -87,36 +75,6 @@ fn read_hurt(line: [u8; 70]) -> Reading
         line: place::clear_spare(line),
         mark: 4,
     }
-}
-
-// A line read alone: the CRC compared, and where it differs the corrector.
-pub fn read_line(line: [u8; 70]) -> Reading
-    ensures { λ r. ⌜ r ≡ reading line ⌝ }
-{
-    if crc::agrees(line) {
-        return Reading {
-            line: wordsums::append(line),
-            mark: 0,
-        };
-    }
-    read_hurt(line)
-}
-
-// A line read alone into a buffer of its length: its mark. A clean line reads as the codeword of its data.
-pub fn read_into(line: &[u8], out: &mut [u8]) -> u8
-    requires { ⌜ (length (now line) ≡ 70) × (length (now out) ≡ 70) ⌝ }
-    ensures { λ r. ⌜ (now (out .exit) ≡ reading (now (line .entry)) .line) × (r ≡ reading (now (line .entry)) .mark) ⌝ }
-{
-    let bytes = place::load(line);
-    let stored = linecode::crc::stored(bytes);
-    if tables::after_data(line) == stored {
-        store_codeword(bytes, stored, out);
-        return 0;
-    }
-    let read = read_hurt(bytes);
-    let corrected = read.line;
-    place::store(corrected, out);
-    read.mark
 }
 
 // Whether the places of a line are what writing its data gives.

@@ -6,8 +6,8 @@ ghost use mathlib.Core.Path.{_≡_};
 ghost use Rattle.gf2.specs.Word.{number};
 ghost use Rattle.gf2.specs.Check.{crc};
 ghost use Rattle.gf2.specs.Generator.{generator};
-ghost use Rattle.linecode.specs.Places.{places, lineOf};
-ghost use Rattle.linecode.specs.Code.{dataOf, accepted, withCrc};
+ghost use Rattle.linecode.specs.Places.{places};
+ghost use Rattle.linecode.specs.Code.{dataOf, accepted};
 
 // The CRC of a line's data.
 pub fn of_data(line: [u8; 70]) -> u32
@@ -21,19 +21,4 @@ pub fn agrees(line: [u8; 70]) -> bool
     ensures { λ r. ⌜ r ≡ accepted (places line) ⌝ }
 {
     of_data(line) == stored(line)
-}
-
-// The data of a line with their CRC written afresh; the Hamming bits and the spare bits are 0.
-pub fn append(line: [u8; 70]) -> [u8; 70]
-    ensures { λ r. ⌜ r ≡ lineOf (withCrc (dataOf (places line))) ⌝ }
-{
-    let crc = of_data(line);
-    let mut whole = line;
-    whole[64] = (crc % 256) as u8;
-    whole[65] = (crc / 256 % 256) as u8;
-    whole[66] = (crc / 65536 % 256) as u8;
-    whole[67] = (crc / 16777216 % 256) as u8;
-    whole[68] = 0;
-    whole[69] = 0;
-    whole
 }

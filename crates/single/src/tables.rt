@@ -9,7 +9,8 @@ ghost use Rattle.register.specs.Slices.{after};
 ghost use Rattle.single.specs.Paired.{Paired};
 
 // The register after eight bytes, the four of x first, and in the upper half the register when eight more follow that are 0. Each table is
-// read at one place of the program, here, so that LLVM puts it there.
+// read at one place of the program, here, so that LLVM puts it there. The bytes of x, which the register waits for, come last, and in the
+// order in which LLVM keeps everything in registers.
 fn eight(x: u32, a: u8, b: u8, c: u8, d: u8) -> u64
     ensures { λ r. ⌜ Paired r (x % 256 ∷ x / 256 % 256 ∷ x / 65536 % 256 ∷ x / 16777216 % 256 ∷ a ∷ b ∷ c ∷ d ∷ []) ⌝ }
 {
@@ -17,10 +18,10 @@ fn eight(x: u32, a: u8, b: u8, c: u8, d: u8) -> u64
         ^ slices_low::pair_1((c as usize) | 256)
         ^ slices_low::pair_2((b as usize) | 256)
         ^ slices_low::pair_3((a as usize) | 256)
-        ^ slices_high::pair_4(((x / 16777216 % 256) as usize) | 256)
-        ^ slices_high::pair_5(((x / 65536 % 256) as usize) | 256)
-        ^ slices_high::pair_6(((x / 256 % 256) as usize) | 256)
         ^ slices_high::pair_7(((x % 256) as usize) | 256)
+        ^ slices_high::pair_6(((x / 256 % 256) as usize) | 256)
+        ^ slices_high::pair_5(((x / 65536 % 256) as usize) | 256)
+        ^ slices_high::pair_4(((x / 16777216 % 256) as usize) | 256)
 }
 
 // The register after a line's 64 data bytes, the first of the slice. Of sixteen bytes the first eight meet the register, and what they leave

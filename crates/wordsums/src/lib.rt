@@ -1,7 +1,6 @@
 // The sum of the positions of a line's set places, by words of 64 bits: the Hamming bits of a single line, for which no table is lent.
 mod words;
 
-use linecode::hamming::stored;
 use linecode::hamming::with_bits;
 ghost use mathlib.Core.Path.{_≡_};
 ghost use mathlib.Core.List.{_++_};
@@ -11,7 +10,7 @@ ghost use lib.ListN.{take, replicate};
 ghost use Rattle.gf2.specs.Word.{digits};
 ghost use Rattle.gf2.specs.Check.{columnSum};
 ghost use Rattle.linecode.specs.Places.{places, lineOf, bitsOf};
-ghost use Rattle.linecode.specs.Code.{protected, positions, upFrom, withHamming, syndrome};
+ghost use Rattle.linecode.specs.Code.{protected, positions, upFrom, withHamming};
 
 // A word with its upper bits, brought down by some places, added to the lower ones; of the sum a mask is kept.
 fn folded(x: u64, by: u32, mask: u64) -> u64
@@ -117,13 +116,6 @@ pub fn position_sum(line: [u8; 70]) -> u16
     ensures { λ r. ⌜ r ≡ columnSum positions (protected (places line)) ⌝ }
 {
     sum_with(line, words::half(line[64], line[65], line[66], line[67]))
-}
-
-// The syndrome of a line.
-pub fn syndrome_of(line: [u8; 70]) -> u16
-    ensures { λ r. ⌜ r ≡ syndrome (places line) ⌝ }
-{
-    position_sum(line) ^ stored(line)
 }
 
 // The protected places with their Hamming bits written afresh, spare bits 0.

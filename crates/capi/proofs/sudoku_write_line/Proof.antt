@@ -1,7 +1,8 @@
 -- `capi::sudoku_write_line` meets its contract: 7 where the data or the buffer have another length, else the line.
 use native.Mathlib.Omega.{arith}
 use borrow.Author.Needs.{needs}
-use Rattle.capi.proofs.Single.{write-refused, write-no-data, write-no-room, write-given}
+use mathlib.Core.Path.{_∙_}
+use Rattle.capi.proofs.Single.{write-refused, write-no-data, write-no-room, written-loaded, write-given}
 use Rattle.capi.proofs.sudoku_write_line.Statement.{statement}
 use Rattle.capi.proofs.sudoku_write_line.Tie as tie
 
@@ -17,20 +18,31 @@ returns-2 c =
     (write-no-room (a .payload .now) (a .line .now) (c .before .if1 .left) (c .if2 .taken))
     (λ z. omega arith)
 
-write-into-requires : tie.Need-write-into-requires
-write-into-requires c κs = search needs
+load-requires : tie.Need-load-requires
+load-requires c κs = search needs
+
+rewrite-requires : tie.Need-rewrite-requires
+rewrite-requires c κs = search needs
+
+store-requires : tie.Need-store-requires
+store-requires c κs = search needs
 
 same-length : tie.Need-same-length
 same-length c = search needs
 
 returns-3 : tie.Need-returns-3
 returns-3 c =
-    let written = c .before .before in
-    let room = written .before .before in
+    let put = c .before .before in
+    let rewritten = put .before .before in
+    let found = rewritten .before in
+    let room = found .before in
     let a = room .before .before .before .before .args in
-    write-given (a .payload .now) (a .line .now) (written .write-into .last .1 .0) (room .before .if1 .left) (room .if2 .left)
-    (written .write-into .ensures)
+    let whole = room .before .if1 .left in
+    write-given (a .payload .now) (a .line .now) (put .store .last .1 .0) whole (room .if2 .left)
+    (put .store .ensures
+    ∙ written-loaded (a .payload .now) (a .line .now) (found .load .result) (rewritten .rewrite .result) whole (found .load .ensures) (rewritten .rewrite .ensures))
 
 pub sudoku-write-line-spec : {M : Type 1} → statement M
 sudoku-write-line-spec =
-    tie.close (tie.spec returns returns-2 write-into-requires same-length returns-3)
+    tie.close
+    (tie.spec returns returns-2 load-requires rewrite-requires store-requires same-length returns-3)

@@ -1,32 +1,19 @@
 -- `single::alone::rewrite` meets its contract.
-use native.Mathlib.Omega.{arith}
 use borrow.Author.Needs.{needs}
-use mathlib.Core.Path.{_≡_, ap, _∙_}
-use Rattle.gf2.specs.Word.{Word}
-use Rattle.linecode.specs.Places.{places, lineOf}
-use Rattle.linecode.specs.Code.{dataOf, withHamming, codeword}
-use Rattle.linecode.proofs.Bytes.{array-length}
-use Rattle.linecode.proofs.Line.{length-places}
-use Rattle.linecode.proofs.Codeword.{length-dataOf, protected-withCrc}
 use Rattle.single.proofs.alone.rewrite.Statement.{statement}
 use Rattle.single.proofs.alone.rewrite.Tie as tie
 
-append-requires : tie.Need-append-requires
-append-requires c κs = search needs
+of-data-requires : tie.Need-of-data-requires
+of-data-requires c κs = search needs
 
-append-requires-2 : tie.Need-append-requires-2
-append-requires-2 c κs = search needs
+sum-with-requires : tie.Need-sum-with-requires
+sum-with-requires c κs = search needs
+
+with-checks-requires : tie.Need-with-checks-requires
+with-checks-requires c κs = (c .before .of-data .ensures, c .sum-with .ensures)
 
 returns : tie.Need-returns
-unfolding codeword
-returns c =
-    let l = c .before .before .args .line in
-    c .append2 .ensures
-    ∙ ap (λ (p : Word). lineOf (withHamming p))
-    (protected-withCrc (dataOf (places l))
-    (length-dataOf (places l) (length-places l (array-length 70 l _ (c .before .before .good .0))))
-    (c .before .append .result)
-    (c .before .append .ensures))
+returns c = c .with-checks .ensures
 
 pub rewrite-spec : {M : Type 1} → statement M
-rewrite-spec = tie.close (tie.spec append-requires append-requires-2 returns)
+rewrite-spec = tie.close (tie.spec of-data-requires sum-with-requires with-checks-requires returns)

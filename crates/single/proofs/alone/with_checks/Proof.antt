@@ -1,20 +1,9 @@
--- `single::crc::append` meets its contract.
-use native.Mathlib.Omega.{arith}
+-- `single::alone::with_checks` meets its contract: the six bytes after the data are stored.
 use borrow.Author.Needs.{needs}
-use mathlib.Core.Path.{_≡_, sym, ap, _∙_, subst}
-use mathlib.Core.List.{_++_}
-use Prim.Native.Nat.{ℕ, _<_}
-use Rattle.gf2.specs.Word.{Word, digits}
-use Rattle.linecode.specs.Places.{places, lineOf}
-use Rattle.linecode.specs.Code.{dataOf, withCrc}
 use Rattle.linecode.proofs.Bytes.{array-length, array-bytes}
-use Rattle.linecode.proofs.Stores.{stored-crc}
-use Rattle.linecode.proofs.Codeword.{crc-number-lt, crc-digits}
-use Rattle.single.proofs.crc.append.Statement.{statement}
-use Rattle.single.proofs.crc.append.Tie as tie
-
-of-data-requires : tie.Need-of-data-requires
-of-data-requires c κs = search needs
+use Rattle.linecode.proofs.Codeword.{stored-codeword}
+use Rattle.single.proofs.alone.with_checks.Statement.{statement}
+use Rattle.single.proofs.alone.with_checks.Tie as tie
 
 cast-whole : tie.Need-cast-whole
 cast-whole c = search needs
@@ -40,26 +29,27 @@ cast-whole-4 c = search needs
 array-write-whole-4 : tie.Need-array-write-whole-4
 array-write-whole-4 c = search needs
 
+cast-whole-5 : tie.Need-cast-whole-5
+cast-whole-5 c = search needs
+
 array-write-whole-5 : tie.Need-array-write-whole-5
 array-write-whole-5 c = search needs
+
+cast-whole-6 : tie.Need-cast-whole-6
+cast-whole-6 c = search needs
 
 array-write-whole-6 : tie.Need-array-write-whole-6
 array-write-whole-6 c = search needs
 
 returns : tie.Need-returns
-unfolding withCrc
 returns c =
-    let l = c .before .args .line in
-    let e = c .of-data .ensures in
-    stored-crc l (array-length 70 l _ (c .before .good .0)) (array-bytes 70 l _ (c .before .good .0)) (c .of-data .result)
-    (subst (λ (n : ℕ). n < 2147483648) (sym e) (crc-number-lt (dataOf (places l))))
-    ∙ ap (λ (w : Word). lineOf (dataOf (places l) ++ w)) (ap (digits 31) e ∙ crc-digits (dataOf (places l)))
+    let l = c .args .line in
+    stored-codeword l (c .args .check) (c .args .sum) (array-length 70 l _ (c .good .0)) (array-bytes 70 l _ (c .good .0)) (c .pre .0) (c .pre .1)
 
-pub append-spec : {M : Type 1} → statement M
-append-spec =
+pub with-checks-spec : {M : Type 1} → statement M
+with-checks-spec =
     tie.close
     (tie.spec
-    of-data-requires
     cast-whole
     array-write-whole
     cast-whole-2
@@ -68,6 +58,8 @@ append-spec =
     array-write-whole-3
     cast-whole-4
     array-write-whole-4
+    cast-whole-5
     array-write-whole-5
+    cast-whole-6
     array-write-whole-6
     returns)
