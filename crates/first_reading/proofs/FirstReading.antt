@@ -18,7 +18,7 @@ use Rattle.rectangle.proofs.LineLayer.{kept}
 use Rattle.rectangle.proofs.Spare.{bytes-is}
 use Rattle.rectangle.proofs.Buffer.{length-bufferOf, bytesAt-bufferOf}
 use Rattle.rectangle.proofs.Loops.{put-next, reading-wide}
-use Rattle.rectangle.proofs.Handed.{read-from}
+use Rattle.rectangle.proofs.Alone.{read-from}
 use Rattle.rectangle.proofs.Members.{length-upFrom, map-upFrom}
 use Rattle.groups.specs.Lent.{Holding}
 use Rattle.first_reading.specs.Lent.{Begun, readFirst}

@@ -1,15 +1,19 @@
 -- A line of a buffer as it reads alone, in bytes and in places.
-use mathlib.Core.Path.{_≡_, sym, ap, _∙_}
+use mathlib.Core.Path.{_≡_, refl, sym, ap, _∙_}
 use mathlib.Core.Bool.{true, false, not}
-use mathlib.Core.List.{List}
-use Prim.Native.Nat.{ℕ, suc, _*_, _≤_}
+use mathlib.Core.List.{List, _∷_, map}
+use Prim.Native.Nat.{ℕ, zero, suc, _*_, _≤_}
 use native.Mathlib.Nat.{suc-mul}
 use native.Mathlib.Omega.{arith}
 use borrow.Author.Tests.{eq-eqb, ne-eqb}
 use lib.ListN.{length, drop, length-drop}
 use lib.Seq.{length-take-le}
 use Rattle.linecode.specs.Places.{linePlaces, lineBytes, places}
+use Rattle.linecode.specs.Code.{upFrom}
 use Rattle.linecode.specs.declared.alone.Reading.{Reading}
+use Rattle.scheme.specs.Layer.{readLine}
+use Rattle.scheme.specs.Visit.{State}
+use Rattle.scheme.specs.Repair.{readAll}
 use Rattle.scheme.proofs.Width.{read-width}
 use Rattle.rectangle.specs.Store.{lineLayer, bytesAt, placesAt, putBytes, putLine, aloneAt, inBytes}
 use Rattle.rectangle.specs.Refusals.{acceptedAt}
@@ -45,3 +49,10 @@ module _ (buffer : List ℕ) (n : ℕ) where
     pub accepted-alone : (mark ≡ 4 → ⊥) → acceptedAt buffer n ≡ true
     unfolding acceptedAt
     accepted-alone d = ap not (ne-eqb (aloneAt buffer n .mark) 4 (λ m. d (e ∙ m)))
+
+-- ---- every line of a buffer is read alone
+pub read-from : (lines : List ℕ) (i k : ℕ)
+    → readAll (readLine lineLayer) i (map (placesAt lines) (upFrom i k)) ≡ map (aloneAt lines) (upFrom i k)
+unfolding aloneAt
+read-from lines i zero = refl
+read-from lines i (suc k) = ap (λ (s : State). readLine lineLayer i (placesAt lines i) ∷ s) (read-from lines (suc i) k)

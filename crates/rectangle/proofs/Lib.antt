@@ -13,22 +13,8 @@ pub mod Tests
 pub mod Loops
 -- The entry points: what is refused, and what is written.
 pub mod Runs
-pub mod Refused
-pub mod Handed
 pub mod Refusing
 pub mod Summing
 pub mod Pieces
 pub mod SweepingRow
 pub mod Sweeping
--- The demands: read Kept last.
-pub mod Parity
-pub mod ParityLines
-pub mod Written
-pub mod Order
-pub mod Demand3
-pub mod NoneWrong
-pub mod FourLines
-pub mod Agreement
-pub mod Anew
-pub mod Kept
-pub mod Example

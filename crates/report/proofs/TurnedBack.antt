@@ -14,7 +14,7 @@ use Rattle.rectangle.specs.Store.{lineLayer, linesIn, groups}
 use Rattle.rectangle.specs.Refusals.{unless, sidesFit, repairRefusal}
 use Rattle.rectangle.specs.Repair.{StoreRepaired, repaired, handsOver, handedOver, repairStore}
 use Rattle.rectangle.proofs.Buffer.{length-linesIn}
-use Rattle.rectangle.proofs.Kept.{kept}
+use Rattle.rectangle.proofs.LineLayer.{kept}
 use Rattle.rectangle.proofs.Runs.{zero-or-not, answer-hands-over, refusal-hands-nothing, repair-runs, repair-refused}
 use Rattle.storefile.specs.Header.{headerBytes}
 use Rattle.storefile.specs.Opening.{rowsIn, columnsIn, sidesWithin, contentsFit, openRefusal, opened}

@@ -12,15 +12,15 @@ use Rattle.scheme.specs.Repair.{repair, marksOf}
 use Rattle.scheme.specs.Demand3 as Scheme
 use Rattle.scheme.proofs.NoneWrong.{none-wrong}
 use Rattle.scheme.proofs.Stays.{repair-length}
 use Rattle.rectangle.specs.Store.{lineLayer, bytesAt, placesAt, linesIn, groups}
 use Rattle.rectangle.specs.Refusals.{holds}
 use Rattle.rectangle.specs.Repair.{repaired, handedOver}
-use Rattle.rectangle.specs.Demands.{Rectangle, count, repairOf, Written, WithinBounds, NoneWrong, NoWrongLine}
+use Rattle.demands.specs.Demands.{Rectangle, count, repairOf, Written, WithinBounds, NoneWrong, NoWrongLine}
 use Rattle.rectangle.proofs.Buffer.{length-linesIn, linesIn-at, bytesAt-bufferOf}
-use Rattle.rectangle.proofs.Written.{wordsOf, some-columns}
-use Rattle.rectangle.proofs.Order.{received, bounded, same-damage}
-use Rattle.rectangle.proofs.Demand3.{same-sides, groups-rise, groups-written, runs}
-use Rattle.rectangle.proofs.Handed.{line-handed, mark-handed}
+use Rattle.demands.proofs.Written.{wordsOf, some-columns}
+use Rattle.demands.proofs.Order.{received, bounded, same-damage}
+use Rattle.demands.proofs.Demand3.{same-sides, groups-rise, groups-written, runs}
+use Rattle.demands.proofs.Handed.{line-handed, mark-handed}
 
 module _ (promises : Promises lineLayer) (w : Rectangle) (written : Written w) (lines rowTable columnTable : List ℕ)
     (bounds : WithinBounds w (received w lines rowTable columnTable)) where

@@ -1,13 +1,13 @@
 -- The line code keeps the promises that repair relies on, and so the demands hold.
-use Rattle.rectangle.specs.Demands.{TablesAreOfTheCode, ParityOfCorrectLines, FaultyAsFound, ExactReturn, NoWrongLine, NotAlike, EqualOrFourLines, ChangeEqualsTablesAnew}
-use Rattle.rectangle.proofs.Agreement as Agreement
-use Rattle.rectangle.proofs.Anew as Anew
-use Rattle.rectangle.proofs.Demand3 as Demand3
-use Rattle.rectangle.proofs.FourLines as FourLines
-use Rattle.rectangle.proofs.Handed as Handed
-use Rattle.rectangle.proofs.NoneWrong as NoneWrong
-use Rattle.rectangle.proofs.ParityLines as ParityLines
+use Rattle.demands.specs.Demands.{TablesAreOfTheCode, ParityOfCorrectLines, FaultyAsFound, ExactReturn, NoWrongLine, NotAlike, EqualOrFourLines, ChangeEqualsTablesAnew}
+use Rattle.demands.proofs.Agreement as Agreement
+use Rattle.demands.proofs.Anew as Anew
+use Rattle.demands.proofs.Demand3 as Demand3
+use Rattle.demands.proofs.FourLines as FourLines
+use Rattle.demands.proofs.Handed as Handed
+use Rattle.demands.proofs.NoneWrong as NoneWrong
+use Rattle.demands.proofs.ParityLines as ParityLines
 pub use Rattle.rectangle.proofs.LineLayer.{kept}
 
 -- ---- the demands that rest on them
 pub tablesAreOfTheCode : TablesAreOfTheCode

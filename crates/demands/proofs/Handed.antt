@@ -15,20 +15,14 @@ use Rattle.scheme.specs.Visit.{Group, State, cellAt, lineAt, isFaulty, select}
 use Rattle.scheme.specs.Repair.{readAll, faultyCount, linesOf, marksOf}
 use Rattle.scheme.proofs.Passes.{repair-passes-none, repair-passes-bound}
 use Rattle.scheme.proofs.Stays.{first-reading-at, repair-stays, repair-length, faulty-as-found}
 use Rattle.rectangle.specs.Store.{lineLayer, bytesAt, placesAt, linesIn, bufferOf, aloneAt, groups}
 use Rattle.rectangle.specs.Refusals.{sidesFit, holds, acceptedAt, repairRefusal}
 use Rattle.rectangle.specs.Repair.{repaired, handsOver, handedOver}
-use Rattle.rectangle.specs.Demands.{Rectangle, count, repairOf, stepsOn, faultyAlone, PassesOf, PassesReturned, GivenAsRead, AcceptedNeverAltered, FaultyAsFound}
+use Rattle.demands.specs.Demands.{Rectangle, count, repairOf, stepsOn, faultyAlone, PassesOf, PassesReturned, GivenAsRead, AcceptedNeverAltered, FaultyAsFound}
+use Rattle.rectangle.proofs.Alone.{read-from}
 use Rattle.rectangle.proofs.Buffer.{holds-length, length-placesAt, length-linesIn, linesIn-at, bytesAt-bufferOf}
 use Rattle.rectangle.proofs.Tests.{passed}
-use Rattle.rectangle.proofs.Refused.{not-refused, handed}
-
--- ---- every line is read alone
-pub read-from : (lines : List ℕ) (i k : ℕ)
-    → readAll (readLine lineLayer) i (map (placesAt lines) (upFrom i k)) ≡ map (aloneAt lines) (upFrom i k)
-unfolding aloneAt
-read-from lines i zero = refl
-read-from lines i (suc k) = ap (λ (s : State). readLine lineLayer i (placesAt lines i) ∷ s) (read-from lines (suc i) k)
+use Rattle.demands.proofs.Refused.{not-refused, handed}
 
 -- counting those of an image that pass a test
 count-map : (cell : ℕ → Cell) (ns : List ℕ) → faultyCount (map cell ns) ≡ length (select (λ n. isFaulty (cell n)) ns)

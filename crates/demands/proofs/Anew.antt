@@ -16,18 +16,18 @@ use Rattle.scheme.specs.Visit.{isFaulty, without, sum}
 use Rattle.scheme.specs.Demand3.{_∈_, Rising}
 use Rattle.scheme.proofs.Lists.{selected}
 use Rattle.scheme.proofs.Sums.{sum-ext, sum-split}
 use Rattle.rectangle.specs.Store.{lineLayer, placesAt, putLine, aloneAt, row, column}
 use Rattle.rectangle.specs.Refusals.{holds, acceptedAt, changeRefusal}
 use Rattle.rectangle.specs.Tables.{rowParity, columnParity}
 use Rattle.rectangle.specs.Change.{newLine, difference, addTo, LineChanged}
-use Rattle.rectangle.specs.Demands.{Rectangle, count, changeIn, Agrees, changed, ChangeEqualsTablesAnew}
+use Rattle.demands.specs.Demands.{Rectangle, count, changeIn, Agrees, changed, ChangeEqualsTablesAnew}
 use Rattle.rectangle.proofs.Buffer.{length-holds, length-placesAt, length-putLine, placesAt-put, placesAt-other}
 use Rattle.rectangle.proofs.Groups.{in-row, row-number, row-inside, row-below, in-column, column-number, column-inside, column-below, rising-row, rising-column}
 use Rattle.rectangle.proofs.Tests.{tables-lengths, lengths-tables}
 use Rattle.rectangle.proofs.Runs.{change-runs}
-use Rattle.rectangle.proofs.Parity.{correct-reads, correct-accepted, accepted-correct}
+use Rattle.demands.proofs.Parity.{correct-reads, correct-accepted, accepted-correct}
 use Rattle.rectangle.proofs.LineLayer.{write-correct}
-use Rattle.rectangle.proofs.Agreement.{some-columns, line-bytes, row-accepted, column-accepted, anew-answers, anew-rows, anew-columns}
+use Rattle.demands.proofs.Agreement.{some-columns, line-bytes, row-accepted, column-accepted, anew-answers, anew-rows, anew-columns}
 
 -- ---- the exclusive or of a group in which line n alone changes
 module _ (old new : ℕ → Word) (n : ℕ) (ns : List ℕ) (others : (m : ℕ) → m ∈ ns → (m ≡ n → ⊥) → new m ≡ old m) where

@@ -10,13 +10,13 @@ use Rattle.scheme.specs.Layer.{readLine}
 use Rattle.scheme.specs.Visit.{Group, State}
 use Rattle.scheme.specs.Repair.{pass, agrees, answer, faultyCount}
 use Rattle.scheme.proofs.Passes.{repair-end}
 use Rattle.rectangle.specs.Store.{lineLayer, linesIn, groups}
 use Rattle.rectangle.specs.Refusals.{tablesRefusal, changeRefusal, repairRefusal}
 use Rattle.rectangle.specs.Tables.{TablesMade}
 use Rattle.rectangle.specs.Change.{LineChanged}
 use Rattle.rectangle.specs.Repair.{repaired, handsOver, handedOver}
-use Rattle.rectangle.specs.Demands.{Rectangle, count, tablesFor, changeIn, repairOf, stepsOn, RefusalsWriteNothing, HandsOverAsLeft, GivenUpLast}
+use Rattle.demands.specs.Demands.{Rectangle, count, tablesFor, changeIn, repairOf, stepsOn, RefusalsWriteNothing, HandsOverAsLeft, GivenUpLast}
 use Rattle.rectangle.proofs.Runs.{zero-or-not, answer-hands-over, refusal-hands-nothing, tables-run, tables-refused, change-runs, change-refused, repair-runs, repair-refused}
 
 -- 11 where faulty lines are left
 answer-left : (gs : List Group) (s : State) → answer gs s ≡ 11 → faultyCount s ≡ 0 → ⊥

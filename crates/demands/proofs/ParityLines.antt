@@ -4,10 +4,10 @@ use mathlib.Core.List.{List}
 use Prim.Native.Nat.{ℕ, _*_}
 use native.Mathlib.Omega.{arith}
 use Rattle.scheme.specs.Layer.{CorrectLine, Promises}
 use Rattle.rectangle.specs.Store.{lineLayer, placesAt, aloneAt, row, column}
 use Rattle.rectangle.specs.Tables.{rowParity, columnParity}
-use Rattle.rectangle.specs.Demands.{ParityOfCorrectLines}
-use Rattle.rectangle.proofs.Parity.{alone-correct, sum-correct}
+use Rattle.demands.specs.Demands.{ParityOfCorrectLines}
+use Rattle.demands.proofs.Parity.{alone-correct, sum-correct}
 
 module _ (promises : Promises lineLayer) where
   -- a correct line is correct as it reads alone

@@ -16,16 +16,16 @@ use Rattle.scheme.specs.Visit.{Group}
 use Rattle.scheme.specs.Demand3.{_∈_, RisingGroups, wordAt}
 use Rattle.scheme.specs.Demand3 as Scheme
 use Rattle.scheme.proofs.NotAlike.{another-differs, eight-bits}
 use Rattle.rectangle.specs.Store.{lineLayer, placesAt, row, column, rowGroup, columnGroup, groups}
 use Rattle.rectangle.specs.Refusals.{every}
-use Rattle.rectangle.specs.Demands.{Rectangle, count, Written, EqualTables, Alike, FourLinesApart, EqualOrFourLines}
+use Rattle.demands.specs.Demands.{Rectangle, count, Written, EqualTables, Alike, FourLinesApart, EqualOrFourLines}
 use Rattle.rectangle.proofs.Members.{upFrom-bounds}
 use Rattle.rectangle.proofs.Tests.{below-every, some-fails}
 use Rattle.rectangle.proofs.Buffer.{length-linesIn, linesIn-at, linesIn-equal}
 use Rattle.rectangle.proofs.Groups.{in-row, row-number, row-inside, row-below, in-column, column-number, column-inside, column-below, same-line, row-listed, column-listed, rising-groups}
-use Rattle.rectangle.proofs.Written.{wordsOf, some-columns, store-written}
-use Rattle.rectangle.proofs.Order.{received}
-use Rattle.rectangle.proofs.Demand3.{same-sides, same-lines}
+use Rattle.demands.proofs.Written.{wordsOf, some-columns, store-written}
+use Rattle.demands.proofs.Order.{received}
+use Rattle.demands.proofs.Demand3.{same-sides, same-lines}
 
 -- ---- looking alike
 tables-sym : {r s : Rectangle} → EqualTables r s → EqualTables s r

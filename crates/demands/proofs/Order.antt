@@ -11,10 +11,10 @@ use Rattle.linecode.specs.Places.{lineBytes}
 use Rattle.scheme.specs.Visit.{Group}
 use Rattle.scheme.specs.Demand3.{_∈_}
 use Rattle.scheme.specs.Demand3 as Scheme
 use Rattle.rectangle.specs.Store.{lineLayer, linesIn, row, column, rowGroup, columnGroup, groups}
-use Rattle.rectangle.specs.Demands.{Rectangle, count, Distinct, damage, damagedAt, Alone, Paired, Turn, Turns, WithinBounds, DamagedSo}
+use Rattle.demands.specs.Demands.{Rectangle, count, Distinct, damage, damagedAt, Alone, Paired, Turn, Turns, WithinBounds, DamagedSo}
 use Rattle.rectangle.proofs.Buffer.{length-placesAt, length-linesIn, linesIn-at, holds-length}
 use Rattle.rectangle.proofs.Groups.{in-row, row-number, row-below, in-column, column-number, column-below, row-listed, column-listed}
 
 -- what is received, with the rows and columns of the rectangle written
 abbrev pub received : Rectangle → List ℕ → List ℕ → List ℕ → Rectangle

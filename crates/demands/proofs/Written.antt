@@ -12,13 +12,13 @@ use Rattle.scheme.specs.Visit.{Group, sum}
 use Rattle.scheme.specs.Demand3.{_∈_, wordAt}
 use Rattle.scheme.specs.Demand3 as Scheme
 use Rattle.scheme.proofs.Sums.{sum-ext}
 use Rattle.rectangle.specs.Store.{lineLayer, placesAt, linesIn, bufferOf, aloneAt, row, column, groups}
 use Rattle.rectangle.specs.Refusals.{sidesFit, acceptedAt}
 use Rattle.rectangle.specs.Tables.{rowParity, columnParity, rowTableOf, columnTableOf}
-use Rattle.rectangle.specs.Demands.{Rectangle, count, Written}
+use Rattle.demands.specs.Demands.{Rectangle, count, Written}
 use Rattle.rectangle.proofs.Buffer.{Sized, length-linesIn, linesIn-at, linesIn-bufferOf, placesAt-bufferOf, length-bufferOf}
 use Rattle.rectangle.proofs.Groups.{Sides, sides, row-inside, column-inside, by-groups}
-use Rattle.rectangle.proofs.Parity.{alone-correct, correct-accepted, rowTable-at, columnTable-at}
+use Rattle.demands.proofs.Parity.{alone-correct, correct-accepted, rowTable-at, columnTable-at}
 
 -- the places of a rectangle's lines
 abbrev pub wordsOf : Rectangle → List Word

@@ -12,16 +12,16 @@ use Rattle.scheme.specs.Repair.{repair, linesOf, answer}
 use Rattle.scheme.specs.Demand3.{RisingGroups, Returned}
 use Rattle.scheme.specs.Demand3 as Scheme
 use Rattle.scheme.proofs.ExactReturn.{exact-return}
 use Rattle.rectangle.specs.Store.{lineLayer, placesAt, linesIn, bufferOf, groups}
 use Rattle.rectangle.specs.Refusals.{holds, repairRefusal}
 use Rattle.rectangle.specs.Repair.{repaired, handedOver, repairStore}
-use Rattle.rectangle.specs.Demands.{Rectangle, count, repairOf, Written, Alike, WithinBounds, DamagedSo, ExactReturn, NotAlike}
+use Rattle.demands.specs.Demands.{Rectangle, count, repairOf, Written, Alike, WithinBounds, DamagedSo, ExactReturn, NotAlike}
 use Rattle.rectangle.proofs.Buffer.{linesIn-equal}
 use Rattle.rectangle.proofs.Groups.{rising-groups, equal-groups}
 use Rattle.rectangle.proofs.Runs.{repair-runs}
-use Rattle.rectangle.proofs.Parity.{parities-pass}
-use Rattle.rectangle.proofs.Written.{wordsOf, rectangleOf, some-rows, some-columns, written-bytes, written-accepted, written-row, written-column, store-written}
-use Rattle.rectangle.proofs.Order.{received, mendable}
+use Rattle.demands.proofs.Parity.{parities-pass}
+use Rattle.demands.proofs.Written.{wordsOf, rectangleOf, some-rows, some-columns, written-bytes, written-accepted, written-row, written-column, store-written}
+use Rattle.demands.proofs.Order.{received, mendable}
 
 -- a rectangle of the same rows and columns
 pub same-sides : (w r : Rectangle) → r .rows ≡ w .rows → r .columns ≡ w .columns

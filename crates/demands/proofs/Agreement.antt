@@ -8,16 +8,16 @@ use native.Mathlib.Omega.{arith}
 use lib.ListN.{length}
 use Rattle.linecode.specs.Places.{lineBytes}
 use Rattle.scheme.specs.Layer.{Promises}
 use Rattle.rectangle.specs.Store.{lineLayer, linesIn, rowGroup, columnGroup, groups}
 use Rattle.rectangle.specs.Refusals.{every, tablesFit, parityCorrect, tablesRefusal}
 use Rattle.rectangle.specs.Tables.{rowParity, columnParity, rowTableOf, columnTableOf, TablesMade}
-use Rattle.rectangle.specs.Demands.{Rectangle, count, tablesFor, Written, Agrees, TablesOfTheCode, TablesAreOfTheCode}
+use Rattle.demands.specs.Demands.{Rectangle, count, tablesFor, Written, Agrees, TablesOfTheCode, TablesAreOfTheCode}
 use Rattle.rectangle.proofs.Buffer.{holds-length, length-holds, equal-linesIn, length-table-bytes}
 use Rattle.rectangle.proofs.Groups.{Sides, sides}
 use Rattle.rectangle.proofs.Tests.{lengths-tables, tables-pass, tables-passed}
 use Rattle.rectangle.proofs.Runs.{zero-or-not, tables-run, tables-refused}
-use Rattle.rectangle.proofs.Parity.{rowParity-correct, columnParity-correct, rowTable-at, columnTable-at, row-passes, column-passes, parities-pass}
-use Rattle.rectangle.proofs.Written.{written-bytes, written-accepted, written-row, written-column}
+use Rattle.demands.proofs.Parity.{rowParity-correct, columnParity-correct, rowTable-at, columnTable-at, row-passes, column-passes, parities-pass}
+use Rattle.demands.proofs.Written.{written-bytes, written-accepted, written-row, written-column}
 
 pub rowTable-bytes : (rows columns : ℕ) (lines : List ℕ) → length (rowTableOf rows columns lines) ≡ rows * lineBytes
 unfolding rowTableOf

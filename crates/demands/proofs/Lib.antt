@@ -1,0 +1,15 @@
+-- What is refused, and what is handed over.
+pub mod Refused
+pub mod Handed
+-- The demands: read Kept last.
+pub mod Parity
+pub mod ParityLines
+pub mod Written
+pub mod Order
+pub mod Demand3
+pub mod NoneWrong
+pub mod FourLines
+pub mod Agreement
+pub mod Anew
+pub mod Kept
+pub mod Example

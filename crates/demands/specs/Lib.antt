@@ -1,0 +1,2 @@
+-- What the customer demands, each sentence above its statement.
+pub mod Demands
