@@ -3,7 +3,6 @@ use mathlib.Core.Path.{sym, _∙_}
 use mathlib.Core.Logic.{⊎-elim}
 use Prim.Native.Nat.{_+_, _-_}
 use Rattle.first_reading.proofs.Adding.{Adding, Place, adding-start, adding-place, adding-faulty, adding-other, adding-end}
-use borrow.Author.Needs.{needs}
 use native.Mathlib.Omega.{arith}
 use Rattle.first_reading.proofs.add_piece.Statement.{statement}
 use Rattle.first_reading.proofs.add_piece.Tie as tie

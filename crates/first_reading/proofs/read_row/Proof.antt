@@ -3,7 +3,6 @@ use mathlib.Core.Path.{sym, _∙_}
 use Prim.Native.Nat.{_+_, _-_, _≤_}
 use native.Mathlib.Nat.{mul-le-mul-right}
 use Rattle.first_reading.proofs.Sweeping.{Sweeping, sweeping-start, sweeping-piece, sweeping-next, sweeping-end}
-use borrow.Author.Needs.{needs}
 use native.Mathlib.Omega.{arith}
 use Rattle.first_reading.proofs.read_row.Statement.{statement}
 use Rattle.first_reading.proofs.read_row.Tie as tie

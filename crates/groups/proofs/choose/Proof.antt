@@ -1,11 +1,10 @@
 -- `groups::choose` meets its contract.
 use native.Mathlib.Omega.{arith}
 use borrow.Author.Needs.{needs}
-use mathlib.Core.Path.{_≡_, sym, ap, _∙_}
+use mathlib.Core.Path.{sym, _∙_}
 use Prim.Native.Nat.{_≤_}
 use native.Mathlib.Nat.{mul-le-mul-right}
-use Rattle.groups.specs.Lent.{numberOf}
-use Rattle.groups.proofs.Numbers.{which-number, which-row, which-column, row-numbered, column-numbered, renumber}
+use Rattle.groups.proofs.Numbers.{which-row, which-column, row-numbered, column-numbered, renumber}
 use Rattle.groups.proofs.choose.Statement.{statement}
 use Rattle.groups.proofs.choose.Tie as tie
 

@@ -1,7 +1,7 @@
 -- `groups::count_faulty` meets its contract.
 use native.Mathlib.Omega.{arith}
 use mathlib.Core.Path.{_≡_, refl, sym, ap, ap₂, _∙_}
-use Prim.Native.Nat.{ℕ, _+_, _-_, _*_, _≤_}
+use Prim.Native.Nat.{_+_, _-_, _*_, _≤_}
 use native.Mathlib.Numerals.{add-one}
 use Rattle.groups.specs.Lent.{countTo}
 use Rattle.groups.proofs.count_faulty.Statement.{statement}

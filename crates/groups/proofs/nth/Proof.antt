@@ -1,6 +1,4 @@
 -- `groups::nth` meets its contract.
-use mathlib.Core.Path.{ap, sym}
-use mathlib.Core.Bool.{Bool, cond}
 use borrow.Author.Tests.{lt-ltb, le-ltb}
 use Rattle.groups.specs.Lent.{whichOf}
 use Rattle.groups.proofs.nth.Statement.{statement}
