@@ -14,16 +14,16 @@ use lib.Seq.{getD-set-same, getD-set-other, getD-at}
 use Rattle.gf2.specs.Word.{Word, _⊕_}
 use Rattle.linecode.specs.Places.{linePlaces, places, lineOf, xorBytes}
 use Rattle.scheme.specs.Layer.{Cell}
-use Rattle.scheme.specs.Visit.{Group, State, cellAt, lineAt, isFaulty, select, sum}
+use Rattle.scheme.specs.Visit.{State, cellAt, lineAt, isFaulty, select}
 use Rattle.scheme.specs.Demand3.{_∈_}
 use Rattle.rectangle.specs.Store.{bytesAt, placesAt, putBytes, aloneAt, stride, row, column}
 use Rattle.rectangle.proofs.Buffer.{length-placesAt}
 use Rattle.rectangle.proofs.Groups.{row-number, column-number, line-inside}
-use Rattle.rectangle.proofs.Spare.{bytes-is, places-lineOf, lineOf-xor}
+use Rattle.rectangle.proofs.Spare.{bytes-is}
 use Rattle.rectangle.proofs.Stride.{in-stride}
 use Rattle.groups.specs.Lent.{Beside, membersOf, groupOf}
 use Rattle.groups.proofs.Numbers.{row-of, column-of, members-rising, homes, members-few}
-use Rattle.groups.proofs.Beside.{one-if, beside-elsewhere, beside-here}
+use Rattle.groups.proofs.Beside.{one-if, clean-sum, beside-elsewhere, beside-here}
 use Rattle.groups.proofs.Added.{put-same, put-other}
 use Rattle.groups.proofs.Rooms.{read-long}
 use Rattle.first_reading.specs.Lent.{readFirst, RowOpen, Piece, SomePiece}
@@ -42,17 +42,6 @@ count-few : (rows columns : ℕ) (parity : ℕ → Word) (s : State) (line : Lis
     → Beside (groupOf rows columns parity k) s line count → count ≤ 512
 count-few rows columns parity s line count k rh ch h b =
     omega (arith, b .number, select-few (λ n. isFaulty (cellAt s n)) (membersOf rows columns k), members-few rows columns rh ch k h)
-
--- ---- a difference has its spare bits 0, so that the exclusive or of its bytes and a line's needs no clearing
-clean-sum : (g : Group) (s : State) (line : List ℕ) (count : ℕ) → Beside g s line count → (w : Word) → length w ≡ linePlaces
-    → xorBytes line (lineOf w) ≡ lineOf (places line ⊕ w)
-clean-sum g s line count b w e =
-    ap (λ (l : List ℕ). xorBytes l (lineOf w)) (b .lack)
-    ∙ lineOf-xor v w (b .long ∙ sym e)
-    ∙ ap (λ (x : Word). lineOf (x ⊕ w)) (sym (ap places (b .lack) ∙ places-lineOf v (b .long)))
-  where
-    v : Word
-    v = sum (lineAt s) (g .members) ⊕ g .parity
 
 -- ---- line n, which stands in row r and column c
 module _ (rows columns : ℕ) (parity : ℕ → Word) (found lacks faulty : List ℕ) (r c n : ℕ) (difference : List ℕ) (hurt : ℕ) (r-in : r < rows) (c-in : c < columns)

@@ -12,13 +12,12 @@ use lib.ListN.{length}
 use Rattle.gf2.specs.Word.{Word, _⊕_}
 use Rattle.gf2.proofs.Xor.{xor-comm, xor-assoc, length-xor-same}
 use Rattle.linecode.specs.Places.{linePlaces, places, lineOf, xorBytes}
-use Rattle.linecode.proofs.Line.{lineOf-xor}
 use Rattle.scheme.specs.Layer.{Cell}
 use Rattle.scheme.specs.Visit.{Group, State, cellAt, lineAt, isFaulty, select, faultyOf, without, sum}
 use Rattle.scheme.specs.Demand3.{_∈_, Rising}
 use Rattle.scheme.proofs.Lists.{selected}
 use Rattle.scheme.proofs.Sums.{sum-ext, sum-split}
-use Rattle.rectangle.proofs.Spare.{places-lineOf}
+use Rattle.rectangle.proofs.Spare.{places-lineOf, lineOf-xor}
 use Rattle.groups.specs.Lent.{Beside}
 
 -- a fact as a number
