@@ -1,5 +1,5 @@
 // The register by tables that are compiled in: for a caller that has one line, and no table to lend.
-// Public for the crate's other modules, which have tested the length; the module is private.
+// Public for the crate's other modules, which know the length; the module is private.
 use register::words;
 ghost use mathlib.Core.Path.{_≡_};
 ghost use mathlib.Core.List.{[], _∷_};
