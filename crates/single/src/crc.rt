@@ -13,7 +13,7 @@ ghost use Rattle.linecode.specs.Code.{dataOf, accepted};
 pub fn of_data(line: [u8; 70]) -> u32
     ensures { λ r. ⌜ r ≡ number (crc generator (dataOf (places line))) ⌝ }
 {
-    tables::after_data(&line)
+    tables::after_data(line)
 }
 
 // Whether the CRC worked out from the data is the stored one.

@@ -1,10 +1,10 @@
 // The register by tables that are compiled in: for a caller that has one line, and no table to lend.
-// Public for the crate's other modules, which have tested the length; the module is private.
+// Public for the crate's other modules; the module is private.
 use register::words;
 ghost use mathlib.Core.Path.{_≡_};
 ghost use mathlib.Core.List.{[], _∷_};
-ghost use Prim.Native.Nat.{_/_, _%_, _≤_};
-ghost use lib.ListN.{length, take};
+ghost use Prim.Native.Nat.{_/_, _%_};
+ghost use lib.ListN.{take};
 ghost use Rattle.register.specs.Slices.{after};
 ghost use Rattle.single.specs.Paired.{Paired};
 
@@ -24,11 +24,10 @@ fn eight(x: u32, a: u8, b: u8, c: u8, d: u8) -> u64
         ^ slices_high::pair_4(((x / 16777216 % 256) as usize) | 256)
 }
 
-// The register after a line's 64 data bytes, the first of the slice. Of sixteen bytes the first eight meet the register, and what they leave
+// The register after a line's 64 data bytes. Of sixteen bytes the first eight meet the register, and what they leave
 // after eight more is kept; the second eight meet an empty register, so that they need not wait for it.
-pub fn after_data(line: &[u8]) -> u32
-    requires { ⌜ 64 ≤ length (now line) ⌝ }
-    ensures { λ r. ⌜ r ≡ after 0 (take 64 (now (line .entry))) ⌝ }
+pub fn after_data(line: [u8; 70]) -> u32
+    ensures { λ r. ⌜ r ≡ after 0 (take 64 line) ⌝ }
 {
     let mut r: u32 = 0;
     let mut kept: u32 = 0;
