@@ -60,8 +60,8 @@ fn rows() -> Vec<Row> {
         bars,
     };
     let mut rows = vec![
-        row("write a line", Some("ns"), &[Bar::Peer(1.0)]),
-        row("read a line", Some("ns"), &[Bar::Peer(1.0)]),
+        row("write a line", Some("ns"), &[Bar::Peer(1.05)]),
+        row("read a line", Some("ns"), &[Bar::Peer(1.05)]),
         row("tables", Some("ms"), &[Bar::Peer(0.85)]),
     ];
     for (name, answer, passes, bars) in REPAIRS {
