@@ -18,7 +18,8 @@
  * - Making tables and repair need about 110 kB of stack, whatever the size of the rectangle; the other calls less than 2 kB.
  *
  * What a caller should know:
- * - After a refusal the buffers are as they were: what stands in `out` or `marks` is no result. Test the answer first.
+ * - After a refusal (2 to 10) the buffers are as they were: what stands in `out` or `marks` is no result. Only sudoku_read_line's 10
+ *   writes: `out` is then the line as found. Test the answer first.
  * - After SUDOKU_LEFT (11) the lines with mark 4 are damaged, as found.
  * - After SUDOKU_DIFFERS (12) trust no line: none is faulty, but some parity line disagrees. Some line may be wrong, and nothing
  *   tells which.

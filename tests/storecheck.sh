@@ -65,6 +65,12 @@ same "no such option" "2 1 0" "$(called --fast)"
 case $(called --help) in "0 0 "*) help=shown ;; *) help=missing ;; esac
 same "help" shown "$help"
 ln -s "$PWD/bin/storecheck" "$room/linked"
+nl='
+'
+for name in 'a b' -x "new${nl}line"; do
+    cp examples/hurt.store "$room/$name"
+    same "the name '$name'" "$(cat examples/hurt.report)" "$(bin/storecheck "$room/$name")"
+done
 same "through a link, from elsewhere" "$(cat examples/hurt.report)" "$(cd "$room" && ./linked "$OLDPWD/examples/hurt.store")"
 
 # What input or output that fails ends with: the status, what is said on standard error, and how much is printed.
@@ -88,6 +94,8 @@ same "help to a closed output" "1 storecheck: standard output is closed, 0 bytes
     echo $? >"$room/status"
 } | true
 same "a reader that is gone" "1 storecheck: the report cannot be written, 0 bytes" "$(ended "$(cat "$room/status")")"
+said=$({ (ulimit -f 0; exec bin/storecheck examples/hurt.store >"$room/out" 2>&3); echo "status $?"; } 3>&1)
+same "a limit on the file's size" "storecheck: the report cannot be written${nl}status 1" "$said"
 bin/storecheck examples/hurt.store >&- 2>&-
 same "closed output and nowhere to say it" 1 $?
 bin/storecheck <&- >"$room/out" 2>"$room/said"

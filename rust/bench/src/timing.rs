@@ -3,7 +3,7 @@
 
 use std::time::{Duration, Instant};
 
-/// Rounds of each figure.
+/// Rounds of each figure at most.
 pub const ROUNDS: usize = 51;
 
 /// Rounds after which nothing more is timed if they took longer than `LONG`.
