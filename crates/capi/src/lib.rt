@@ -36,11 +36,11 @@ pub extern "C" fn sudoku_write_line(payload: &[u8], line: &mut [u8]) -> u32
         (writeLine (now (payload .entry)) (now (line .entry))) ⌝ }
 {
     if payload.len() != 64 {
-        return 7; // the data
+        return 7;
     }
     let room = line.len();
     if room != 70 {
-        return 7; // the buffer
+        return 7;
     }
     let written = alone::rewrite(place::load(payload));
     store(written, line);
