@@ -1,4 +1,4 @@
--- `rectangle::tables::add_lines` meets its contract: after i turns the first i lines are added.
+-- `tables::add_lines` meets its contract: after i turns the first i lines are added.
 use mathlib.Core.Path.{_≡_, ap, _∙_}
 use mathlib.Core.List.{List}
 use Prim.Native.Nat.{ℕ, suc, _+_, _-_, _*_, _≤_}
@@ -6,12 +6,12 @@ use native.Mathlib.Omega.{arith}
 use borrow.Author.Needs.{needs}
 use lib.ListN.{length}
 use Rattle.linecode.specs.Places.{xorBytes}
 use Rattle.rectangle.specs.Store.{bytesAt, putBytes}
-use Rattle.rectangle.specs.Sweep.{LinesAdded}
+use Rattle.tables.specs.Sweep.{LinesAdded}
 use Rattle.rectangle.proofs.Alone.{seventy}
-use Rattle.rectangle.proofs.Pieces.{nth-within, adding-starts, sum-within, adding-more}
-use Rattle.rectangle.proofs.tables.add_lines.Statement.{statement}
-use Rattle.rectangle.proofs.tables.add_lines.Tie as tie
+use Rattle.tables.proofs.Pieces.{nth-within, adding-starts, sum-within, adding-more}
+use Rattle.tables.proofs.add_lines.Statement.{statement}
+use Rattle.tables.proofs.add_lines.Tie as tie
 
 abbrev Inv-loop : tie.InvT-loop
 Inv-loop buffer n count c column-sums₀ total₀ i₀ column-sums total i = (i ≤ count) × LinesAdded (λ k. bytesAt buffer (n + k)) i c column-sums₀ column-sums total₀ total

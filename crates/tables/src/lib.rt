@@ -1,21 +1,21 @@
 // Making both parity tables from lines, each used as it reads alone. Document 01, "The rectangle".
-use crate::lines::ColumnIndex;
-use crate::lines::RowIndex;
-use crate::lines::add_to_column_sum;
-use crate::lines::line_at;
-use crate::lines::put_row_parity;
-use crate::lines::read_into;
-use crate::sizes;
 use linecode::place;
+use rectangle::lines::ColumnIndex;
+use rectangle::lines::RowIndex;
+use rectangle::lines::add_to_column_sum;
+use rectangle::lines::line_at;
+use rectangle::lines::put_row_parity;
+use rectangle::lines::read_into;
+use rectangle::sizes;
 use sweep::reading;
 ghost use mathlib.Core.Path.{_≡_};
 ghost use mathlib.Core.Bool.{true};
 ghost use Prim.Native.Nat.{_+_, _*_, _≤_};
 ghost use lib.ListN.{length, take};
 ghost use Rattle.line_table.specs.Table.{lineTable};
 ghost use Rattle.rectangle.specs.Store.{bytesAt};
-ghost use Rattle.rectangle.specs.Sweep.{PieceSums, PieceRead, LinesAdded, PieceSummed, RowUnswept, RowSwept, Unswept, Swept};
 ghost use Rattle.rectangle.specs.Tables.{TablesMade, makeTables};
+ghost use Rattle.tables.specs.Sweep.{PieceSums, PieceRead, LinesAdded, PieceSummed, RowUnswept, RowSwept, Unswept, Swept};
 
 // The exclusive or of some lines, and whether all of them are accepted; where one is faulty, the line is for no use.
 struct RowSum {
