@@ -84,7 +84,7 @@ pub extern "C" fn sudoku_make_tables(
         (record { answer = r; rowTable = now («row_table» .exit); columnTable = now («column_table» .exit) })
         (makeTables rows columns (now (lines .entry)) (now («row_table» .entry)) (now («column_table» .entry))) ⌝ }
 {
-    rectangle::tables::make_tables(rows, columns, lines, row_table, column_table)
+    tables::make_tables(rows, columns, lines, row_table, column_table)
 }
 
 // Line n written anew from 64 data bytes, with its two parity lines.

@@ -12,6 +12,7 @@ use lib.Seq.{take-at, drop-at, take-append-add, drop-append-add, getD-append-add
 use Rattle.gf2.specs.Word.{Word}
 use Rattle.linecode.specs.Places.{linePlaces, lineBytes, places, lineOf}
 use Rattle.linecode.specs.Code.{upFrom}
+use Rattle.sweep.specs.Sums.{lineAt, bothSums}
 use Rattle.scheme.specs.Demand3.{wordAt}
 use Rattle.rectangle.specs.Store.{bytesAt, placesAt, linesIn, bufferOf, putBytes, putLine}
 use Rattle.rectangle.specs.Refusals.{holds}
@@ -34,6 +35,13 @@ length-holds k buffer e = eq-eqb _ _ e
 pub byte-of : (buffer : List ℕ) (n i : ℕ) → i < lineBytes → getD (bytesAt buffer n) i 0 ≡ getD buffer (n * lineBytes + i) 0
 unfolding bytesAt
 byte-of buffer n i h = getD-take lineBytes (drop (n * lineBytes) buffer) i 0 h ∙ getD-drop (n * lineBytes) buffer i 0
+
+-- both sums of so many lines, from line n on, as the sweep gives them
+pub piece-sums : (buffer : List ℕ) (n count : ℕ) (sums : List ℕ)
+    → ((i : ℕ) → i < count → getD sums i 0 ≡ bothSums (places (lineAt buffer (n + i))))
+    → (i : ℕ) → i < count → getD sums i 0 ≡ bothSums (places (bytesAt buffer (n + i)))
+unfolding bytesAt lineBytes
+piece-sums buffer n count sums e = e
 
 -- ---- line n of a buffer of k lines
 module _ (k : ℕ) (buffer : List ℕ) (whole : length buffer ≡ k * lineBytes) (n : ℕ) (inside : n < k) where

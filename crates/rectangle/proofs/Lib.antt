@@ -14,7 +14,3 @@ pub mod Loops
 -- The entry points: what is refused, and what is written.
 pub mod Runs
 pub mod Refusing
-pub mod Summing
-pub mod Pieces
-pub mod SweepingRow
-pub mod Sweeping

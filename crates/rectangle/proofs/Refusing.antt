@@ -1,16 +1,14 @@
--- What the entry points refuse: the tests of the sizes, which they share, and then what making tables refuses.
-use mathlib.Core.Path.{_≡_, sym, ap, ap₂, _∙_}
+-- What the entry points refuse: the tests of the sizes, which they share.
+use mathlib.Core.Path.{_≡_, sym, _∙_}
 use mathlib.Core.Bool.{Bool, true, false, _&&_, and-eq-true-iff}
 use mathlib.Core.List.{List}
 use Prim.Native.Nat.{ℕ, _*_}
 use native.Mathlib.Omega.{arith}
-use borrow.Author.Tests.{eqb-true, eq-eqb, ne-eqb}
+use borrow.Author.Tests.{eqb-true, eq-eqb}
 use lib.Dec.{eqb}
 use lib.ListN.{length}
 use Rattle.linecode.specs.Places.{lineBytes}
-use Rattle.linecode.specs.Code.{upFrom}
-use Rattle.rectangle.specs.Refusals.{unless, every, sidesFit, holds, tablesFit, acceptedAt, tablesRefusal}
-use Rattle.rectangle.specs.Tables.{rowTableOf, columnTableOf, TablesMade, makeTables}
+use Rattle.rectangle.specs.Refusals.{unless, sidesFit, holds, tablesFit}
 use Rattle.rectangle.proofs.Tests.{passed}
 
 -- a refusal that the first three tests give stands, whatever is tested next
@@ -71,31 +69,3 @@ module _ (rows columns : ℕ) (lines rowTable columnTable : List ℕ) where
   pub sizes-next : SizesPass → (next : ℕ) → sizesThen next ≡ next
   unfolding holds tablesFit lineBytes
   sizes-next p next = rw (p .sides, eq-eqb _ _ (p .lineBytes), eq-eqb _ _ (p .rowBytes), eq-eqb _ _ (p .columnBytes))
-
-  -- ---- making tables
-  -- a refusal writes nothing
-  pub tables-refused : (r : ℕ) → tablesRefusal rows columns lines rowTable columnTable ≡ r → (r ≡ 0 → ⊥)
-      → _≡_ {A = TablesMade} (record { answer = r; rowTable = rowTable; columnTable = columnTable })
-      (makeTables rows columns lines rowTable columnTable)
-  unfolding makeTables
-  tables-refused r e d = rw (e, ne-eqb r 0 d)
-
-  pub tables-sizes : (r : ℕ) → r ≡ sizeTests → (r ≡ 0 → ⊥) → tablesRefusal rows columns lines rowTable columnTable ≡ r
-  unfolding tablesRefusal
-  tables-sizes r e d = sizes-refused r _ e d
-
-  -- a faulty line
-  pub tables-faulty : SizesPass → every (acceptedAt lines) (upFrom 0 (rows * columns)) ≡ false
-      → tablesRefusal rows columns lines rowTable columnTable ≡ 10
-  unfolding tablesRefusal
-  tables-faulty p e = sizes-next p _ ∙ ap (λ (b : Bool). unless b 10 0) e
-
-  -- nothing refused: both tables as they are made
-  pub tables-made : (newRows newColumns : List ℕ) → SizesPass → every (acceptedAt lines) (upFrom 0 (rows * columns)) ≡ true
-      → newRows ≡ rowTableOf rows columns lines → newColumns ≡ columnTableOf rows columns lines
-      → _≡_ {A = TablesMade} (record { answer = 0; rowTable = newRows; columnTable = newColumns })
-      (makeTables rows columns lines rowTable columnTable)
-  unfolding makeTables tablesRefusal
-  tables-made newRows newColumns p e f g =
-      ap₂ (λ (a b : List ℕ). record { answer = 0; rowTable = a; columnTable = b }) f g
-      ∙ rw (sizes-next p _ ∙ ap (λ (b : Bool). unless b 10 0) e)

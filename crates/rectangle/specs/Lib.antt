@@ -1,8 +1,7 @@
--- The rectangle, in document 01's order: read Store, then Refusals, Tables, Change, Repair. Sweep is for the contracts of inner
--- functions only. The demands stand above, in the crate `demands`.
+-- The rectangle, in document 01's order: read Store, then Refusals, Tables, Change, Repair. The demands stand above, in the crate
+-- `demands`.
 pub mod Store
 pub mod Refusals
 pub mod Tables
-pub mod Sweep
 pub mod Change
 pub mod Repair

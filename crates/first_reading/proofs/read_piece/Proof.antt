@@ -2,7 +2,7 @@
 use native.Mathlib.Omega.{arith}
 use mathlib.Core.Path.{sym, _∙_}
 use Prim.Native.Nat.{_-_}
-use Rattle.rectangle.proofs.Pieces.{piece-sums}
+use Rattle.rectangle.proofs.Buffer.{piece-sums}
 use Rattle.first_reading.proofs.FirstReading.{ReadingOn, reading-start, reading-next, reading-end}
 use Rattle.first_reading.proofs.read_piece.Statement.{statement}
 use Rattle.first_reading.proofs.read_piece.Tie as tie

@@ -1,13 +1,14 @@
--- `rectangle::tables::sum_piece` meets its contract: the lines are added from where they are, or read first.
+-- `tables::sum_piece` meets its contract: the lines are added from where they are, or read first.
 use mathlib.Core.Path.{sym, ap, _∙_, subst}
 use mathlib.Core.Bool.{Bool}
 use borrow.Author.Tests.{not-true, not-false}
 use Rattle.rectangle.specs.Store.{bytesAt}
-use Rattle.rectangle.specs.Sweep.{PieceSums, PieceRead}
-use Rattle.rectangle.proofs.Pieces.{piece-sums, from-first, piece-summed, piece-refused}
+use Rattle.tables.specs.Sweep.{PieceSums, PieceRead}
+use Rattle.rectangle.proofs.Buffer.{piece-sums}
+use Rattle.tables.proofs.Pieces.{from-first, piece-summed, piece-refused}
 use borrow.Author.Needs.{needs}
-use Rattle.rectangle.proofs.tables.sum_piece.Statement.{statement}
-use Rattle.rectangle.proofs.tables.sum_piece.Tie as tie
+use Rattle.tables.proofs.sum_piece.Statement.{statement}
+use Rattle.tables.proofs.sum_piece.Tie as tie
 
 sums-of-lines-requires : tie.Need-sums-of-lines-requires
 sums-of-lines-requires c κs = search needs

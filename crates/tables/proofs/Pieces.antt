@@ -7,17 +7,16 @@ use native.Mathlib.Nat.{mul-le-mul-right, zero-add}
 use native.Mathlib.Numerals.{add-one}
 use native.Mathlib.Omega.{arith}
 use borrow.Author.Count.{below-more}
-use lib.ListN.{length, getD}
-use Rattle.linecode.specs.Places.{lineBytes, places, lineOf, xorBytes}
+use lib.ListN.{length}
+use Rattle.linecode.specs.Places.{lineBytes, lineOf, xorBytes}
 use Rattle.linecode.proofs.Bytes.{length-xorBytes}
-use Rattle.sweep.specs.Sums.{lineAt, bothSums}
 use Rattle.rectangle.specs.Store.{bytesAt, putBytes, putLine, aloneAt}
 use Rattle.rectangle.specs.Refusals.{acceptedAt}
-use Rattle.rectangle.specs.Sweep.{PieceSums, PieceRead, withLines, LinesAdded, PieceSummed}
+use Rattle.tables.specs.Sweep.{PieceRead, withLines, LinesAdded, PieceSummed}
 use Rattle.rectangle.proofs.Spare.{bytes-is}
 use Rattle.rectangle.proofs.Buffer.{bytesAt-put, bytesAt-other, length-putBytes, bytesAt-putBytes, bytesAt-still}
 use Rattle.rectangle.proofs.Alone.{seventy, faulty-alone, accepted-alone}
 use Rattle.rectangle.proofs.Tests.{every-from, fails-from}
 
 -- line i lies inside so many lines
 pub line-within : (i count bytes : ℕ) → i < count → count * 70 ≤ bytes → suc i * 70 ≤ bytes
@@ -26,12 +25,6 @@ line-within i count bytes h room = let below : suc i * 70 ≤ count * 70 = mul-l
 -- line i of so many, from line n on
 pub nth-within : (n i count bytes : ℕ) → i < count → (n + count) * 70 ≤ bytes → suc (n + i) * 70 ≤ bytes
 nth-within n i count bytes h room = line-within (n + i) (n + count) bytes (omega arith) room
-
--- what the sweep gives for the lines of a buffer
-pub piece-sums : (lines : List ℕ) (n count : ℕ) (sums : List ℕ)
-    → ((i : ℕ) → i < count → getD sums i 0 ≡ bothSums (places (lineAt lines (n + i)))) → PieceSums lines n count sums
-unfolding bytesAt lineBytes
-piece-sums lines n count sums e = e
 
 -- ---- the loops that read: i lines are read
 pub record PieceTurn (lines : List ℕ) (n : ℕ) (each : ℕ → List ℕ) (i : ℕ) : Type 0 where

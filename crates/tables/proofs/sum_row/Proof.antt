@@ -1,13 +1,13 @@
--- `rectangle::tables::sum_row` meets its contract: after each turn the first c lines of the row are summed.
+-- `tables::sum_row` meets its contract: after each turn the first c lines of the row are summed.
 use mathlib.Core.Path.{sym, _∙_}
 use mathlib.Core.Logic.{⊎-elim}
 use Prim.Native.Nat.{_+_, _-_, _*_, _≤_, _<_}
 use native.Mathlib.Omega.{arith}
 use lib.ListN.{length}
 use borrow.Author.Tests.{not-true, not-false}
-use Rattle.rectangle.proofs.SweepingRow.{RowTurn, row-starts, piece-in, row-faulty, row-more, row-ends}
-use Rattle.rectangle.proofs.tables.sum_row.Statement.{statement}
-use Rattle.rectangle.proofs.tables.sum_row.Tie as tie
+use Rattle.tables.proofs.SweepingRow.{RowTurn, row-starts, piece-in, row-faulty, row-more, row-ends}
+use Rattle.tables.proofs.sum_row.Statement.{statement}
+use Rattle.tables.proofs.sum_row.Tie as tie
 
 abbrev Inv-loop : tie.InvT-loop
 Inv-loop table lines first columns piece₀ column-sums₀ sum₀ c₀ piece column-sums sum c =

@@ -1,12 +1,12 @@
--- `rectangle::tables::read_piece` meets its contract: after i turns the first i lines are read.
+-- `tables::read_piece` meets its contract: after i turns the first i lines are read.
 use mathlib.Core.Path.{_≡_, sym, _∙_}
 use Prim.Native.Nat.{suc, _+_, _-_, _*_, _≤_}
 use native.Mathlib.Omega.{arith}
 use lib.ListN.{length}
 use Rattle.rectangle.specs.Store.{bytesAt}
-use Rattle.rectangle.proofs.Pieces.{line-within, nth-within, PieceTurn, piece-starts, piece-faulty, piece-more, piece-ends}
-use Rattle.rectangle.proofs.tables.read_piece.Statement.{statement}
-use Rattle.rectangle.proofs.tables.read_piece.Tie as tie
+use Rattle.tables.proofs.Pieces.{line-within, nth-within, PieceTurn, piece-starts, piece-faulty, piece-more, piece-ends}
+use Rattle.tables.proofs.read_piece.Statement.{statement}
+use Rattle.tables.proofs.read_piece.Tie as tie
 
 abbrev Inv-loop : tie.InvT-loop
 Inv-loop table lines n count piece₀ sums i₀ piece i = (i ≤ count) × (length piece ≡ 8 * 70) × PieceTurn lines n (bytesAt piece) i

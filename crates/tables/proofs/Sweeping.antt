@@ -13,16 +13,16 @@ use lib.Seq.{take-add, ext-getD}
 use Rattle.gf2.specs.Word.{Word}
 use Rattle.linecode.specs.Places.{lineBytes, lineOf}
 use Rattle.linecode.specs.Code.{upFrom}
 use Rattle.rectangle.specs.Store.{bytesAt, placesAt, bufferOf, putBytes, putLine, row, column}
 use Rattle.rectangle.specs.Refusals.{acceptedAt}
 use Rattle.rectangle.specs.Tables.{rowParity, columnParity, rowTableOf, columnTableOf}
-use Rattle.rectangle.specs.Sweep.{RowUnswept, RowSwept, Unswept, Swept}
+use Rattle.tables.specs.Sweep.{RowUnswept, RowSwept, Unswept, Swept}
 use Rattle.rectangle.proofs.Members.{upFrom-bounds}
 use Rattle.rectangle.proofs.Buffer.{byte-of, length-putLine, bytesAt-put, bytesAt-other}
 use Rattle.rectangle.proofs.Area.{column-bytes}
 use Rattle.rectangle.proofs.Alone.{seventy}
 use Rattle.rectangle.proofs.Tests.{some-fails, from-every, every-below, fails-below}
-use Rattle.rectangle.proofs.Summing.{summed, none-summed, clean-summed, sum-turn}
+use Rattle.tables.proofs.Summing.{summed, none-summed, clean-summed, sum-turn}
 
 -- ---- the sums as tables
 -- one line more at the end of a table

@@ -1,13 +1,13 @@
--- `rectangle::tables::sweep` meets its contract: after r turns the first r rows are summed.
+-- `tables::sweep` meets its contract: after r turns the first r rows are summed.
 use mathlib.Core.Path.{_≡_, refl, sym, _∙_}
 use Prim.Native.Nat.{_+_, _-_, _*_, _≤_}
 use native.Mathlib.Omega.{arith}
 use borrow.Author.Needs.{needs}
 use borrow.Author.Tests.{not-true, not-false}
 use lib.ListN.{length}
-use Rattle.rectangle.proofs.Sweeping.{Sweeping, sweep-starts, row-in, row-sum-in, row-unswept, sweep-faulty, sweep-more, sweep-ends}
-use Rattle.rectangle.proofs.tables.sweep.Statement.{statement}
-use Rattle.rectangle.proofs.tables.sweep.Tie as tie
+use Rattle.tables.proofs.Sweeping.{Sweeping, sweep-starts, row-in, row-sum-in, row-unswept, sweep-faulty, sweep-more, sweep-ends}
+use Rattle.tables.proofs.sweep.Statement.{statement}
+use Rattle.tables.proofs.sweep.Tie as tie
 
 abbrev Inv-loop : tie.InvT-loop
 Inv-loop table rows columns lines row-sums₀ column-sums₀ piece₀ first₀ r₀ row-sums column-sums piece first r =

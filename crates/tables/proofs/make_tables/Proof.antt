@@ -1,15 +1,16 @@
--- `rectangle::tables::make_tables` meets its contract: each way out is one of the refusals, or both tables made.
+-- `tables::make_tables` meets its contract: each way out is one of the refusals, or both tables made.
 use mathlib.Core.Path.{refl, sym, ap, _∙_}
 use Prim.Native.Nat.{ℕ}
 use native.Mathlib.Omega.{arith}
 use borrow.Author.Needs.{needs}
 use borrow.Author.Tests.{not-true, not-false}
 use lib.ListN.{take}
 use Rattle.rectangle.proofs.Groups.{sides}
-use Rattle.rectangle.proofs.Refusing.{SizesPass, sizes-passed, tables-sizes, tables-faulty, tables-refused, tables-made}
-use Rattle.rectangle.proofs.Sweeping.{unswept}
-use Rattle.rectangle.proofs.tables.make_tables.Statement.{statement}
-use Rattle.rectangle.proofs.tables.make_tables.Tie as tie
+use Rattle.rectangle.proofs.Refusing.{SizesPass, sizes-passed}
+use Rattle.tables.proofs.Refusing.{tables-sizes, tables-faulty, tables-refused, tables-made}
+use Rattle.tables.proofs.Sweeping.{unswept}
+use Rattle.tables.proofs.make_tables.Statement.{statement}
+use Rattle.tables.proofs.make_tables.Tie as tie
 
 refusal-requires : tie.Need-refusal-requires
 refusal-requires c κs = search needs

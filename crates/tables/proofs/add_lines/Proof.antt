@@ -1,4 +1,4 @@
--- `rectangle::tables::add_lines` meets its contract: after i turns the first i lines are added.
+-- `tables::add_lines` meets its contract: after i turns the first i lines are added.
 use mathlib.Core.Path.{_≡_, ap, _∙_}
 use mathlib.Core.List.{List}
 use Prim.Native.Nat.{ℕ, suc, _+_, _-_, _*_, _≤_}
@@ -6,18 +6,19 @@ use native.Mathlib.Omega.{arith}
 use borrow.Author.Needs.{needs}
 use lib.ListN.{length}
 use Rattle.linecode.specs.Places.{xorBytes}
 use Rattle.rectangle.specs.Store.{bytesAt, putBytes}
-use Rattle.rectangle.specs.Sweep.{LinesAdded}
+use Rattle.tables.specs.Sweep.{LinesAdded}
 use Rattle.rectangle.proofs.Alone.{seventy}
-use Rattle.rectangle.proofs.Pieces.{nth-within, adding-starts, sum-within, adding-more}
-use Rattle.rectangle.proofs.tables.add_lines.Statement.{statement}
-use Rattle.rectangle.proofs.tables.add_lines.Tie as tie
+use Rattle.tables.proofs.Pieces.{nth-within, adding-starts, sum-within, adding-more}
+use Rattle.tables.proofs.add_lines.Statement.{statement}
+use Rattle.tables.proofs.add_lines.Tie as tie
 
 abbrev Inv-loop : tie.InvT-loop
-Inv-loop buffer n count c column-sums₀ total₀ i₀ column-sums total i = (i ≤ count) × LinesAdded (λ k. bytesAt buffer (n + k)) i c column-sums₀ column-sums total₀ total
+Inv-loop buffer n count column-sums₀ c total₀ i₀ column-sums total i =
+    (i ≤ count) × LinesAdded (λ k. bytesAt buffer (n + k)) i c column-sums₀ column-sums total₀ total
 
 abbrev μ-loop : tie.MeasureT-loop
-μ-loop buffer n count c column-sums₀ total₀ i₀ column-sums total i = count - i
+μ-loop buffer n count column-sums₀ c total₀ i₀ column-sums total i = count - i
 
 loop-holds : tie.Need-loop-holds Inv-loop μ-loop
 loop-holds c = (omega arith, adding-starts _ _ _ _)
@@ -36,15 +37,15 @@ line-at-requires c κs = held c
 xor-bytes-requires : tie.Need-xor-bytes-requires Inv-loop μ-loop
 xor-bytes-requires c κs = search needs
 
-add-t12 : tie.Need-add-t12 Inv-loop μ-loop
-add-t12 c = omega arith
+add-t13 : tie.Need-add-t13 Inv-loop μ-loop
+add-t13 c = omega arith
 
 add-to-column-sum-requires : tie.Need-add-to-column-sum-requires Inv-loop μ-loop
 add-to-column-sum-requires c κs =
     let turn = c .before .before .before in
     let here = turn .before .loop in
     let start = turn .before .before .before .before in
-    sum-within _ (here .i) (start .args .c) (start .args .column-sums .now) (here .column-sums) (start .args .sum)
+    sum-within _ (here .i) (start .args .column .0) (start .args .column-sums .now) (here .column-sums) (start .args .sum)
     (here .total) (here .inv .1) (seventy _ _ (held turn)) (start .pre .2) (omega (arith, start .pre .1))
 
 add-i : tie.Need-add-i Inv-loop μ-loop
@@ -61,7 +62,7 @@ loop-again c =
     let turn = read .before in
     let here = turn .before .loop in
     let start = turn .before .before .before .before in
-    let at = start .args .c + here .i in (
+    let at = start .args .column .0 + here .i in (
       omega arith,
       adding-more _ _ _ _ (here .column-sums) (start .args .sum) (here .total) (here .inv .1) (seventy _ _ (held turn)) (start .pre .2)
           (omega (arith, start .pre .1)) _ _
@@ -90,7 +91,7 @@ add-lines-spec =
     add-line-at
     line-at-requires
     xor-bytes-requires
-    add-t12
+    add-t13
     add-to-column-sum-requires
     add-i
     loop-less

@@ -1,11 +1,11 @@
--- `rectangle::tables::copy_sums` meets its contract: after i turns the first i bytes of the sums stand in the table.
+-- `tables::copy_sums` meets its contract: after i turns the first i bytes of the sums stand in the table.
 use mathlib.Core.Path.{_≡_}
 use Prim.Native.Nat.{_-_}
 use native.Mathlib.Omega.{arith}
 use lib.ListN.{length}
 use Rattle.rectangle.proofs.Copying.{Pasting, pasting-start, pasting-length, copied-next, copied-end}
-use Rattle.rectangle.proofs.tables.copy_sums.Statement.{statement}
-use Rattle.rectangle.proofs.tables.copy_sums.Tie as tie
+use Rattle.tables.proofs.copy_sums.Statement.{statement}
+use Rattle.tables.proofs.copy_sums.Tie as tie
 
 abbrev Inv-loop : tie.InvT-loop
 Inv-loop sums table₀ i₀ table i = Pasting table₀ sums 0 (length table₀) table i

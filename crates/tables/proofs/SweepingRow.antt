@@ -10,15 +10,15 @@ use lib.ListN.{length, replicate}
 use Rattle.gf2.specs.Word.{_⊕_}
 use Rattle.linecode.specs.Places.{lineOf, xorBytes}
 use Rattle.linecode.specs.Code.{upFrom}
 use Rattle.rectangle.specs.Store.{bytesAt, placesAt, aloneAt}
 use Rattle.rectangle.specs.Refusals.{acceptedAt}
-use Rattle.rectangle.specs.Sweep.{withLines, LinesAdded, PieceSummed, RowUnswept, RowSwept}
+use Rattle.tables.specs.Sweep.{withLines, LinesAdded, PieceSummed, RowUnswept, RowSwept}
 use Rattle.rectangle.proofs.Members.{upFrom-bounds}
 use Rattle.rectangle.proofs.Spare.{seventy-lineOf}
 use Rattle.rectangle.proofs.Alone.{seventy, length-alone}
 use Rattle.rectangle.proofs.Tests.{some-fails, every-from, from-every, fails-from}
-use Rattle.rectangle.proofs.Summing.{summed, none-summed, clean-more, clean-summed, sum-turn}
-use Rattle.rectangle.proofs.Pieces.{line-within}
+use Rattle.tables.proofs.Summing.{summed, none-summed, clean-more, clean-summed, sum-turn}
+use Rattle.tables.proofs.Pieces.{line-within}
 
 -- the loop: the first c lines of the row are summed
 pub record RowTurn (lines : List ℕ) (first columns : ℕ) (old piece sums line : List ℕ) (c : ℕ) : Type 0 where

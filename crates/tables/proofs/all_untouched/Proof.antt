@@ -1,4 +1,4 @@
--- `rectangle::tables::all_untouched` meets its contract: after i turns the first i lines read as they stand.
+-- `tables::all_untouched` meets its contract: after i turns the first i lines read as they stand.
 use mathlib.Core.Path.{_≡_, sym, ap, _∙_}
 use mathlib.Core.Bool.{true≢false}
 use mathlib.Core.List.{List}
@@ -9,11 +9,11 @@ use lib.ListN.{length}
 use Rattle.linecode.specs.Places.{places}
 use Rattle.linecode.specs.declared.alone.Reading.{Reading}
 use Rattle.sweep.specs.Sums.{bothSums}
 use Rattle.rectangle.specs.Store.{bytesAt}
 use Rattle.rectangle.proofs.LineLayer.{read-at}
-use Rattle.rectangle.proofs.Pieces.{nth-within, PieceTurn, piece-starts, piece-stands, piece-ends}
-use Rattle.rectangle.proofs.tables.all_untouched.Statement.{statement}
-use Rattle.rectangle.proofs.tables.all_untouched.Tie as tie
+use Rattle.tables.proofs.Pieces.{nth-within, PieceTurn, piece-starts, piece-stands, piece-ends}
+use Rattle.tables.proofs.all_untouched.Statement.{statement}
+use Rattle.tables.proofs.all_untouched.Tie as tie
 
 abbrev Inv-loop : tie.InvT-loop
 Inv-loop lines n count sums i₀ i = (i ≤ count) × PieceTurn lines n (λ k. bytesAt lines (n + k)) i

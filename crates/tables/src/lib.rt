@@ -1,21 +1,21 @@
 // Making both parity tables from lines, each used as it reads alone. Document 01, "The rectangle".
-use crate::lines::ColumnIndex;
-use crate::lines::RowIndex;
-use crate::lines::add_to_column_sum;
-use crate::lines::line_at;
-use crate::lines::put_row_parity;
-use crate::lines::read_into;
-use crate::sizes;
 use linecode::place;
+use rectangle::lines::ColumnIndex;
+use rectangle::lines::RowIndex;
+use rectangle::lines::add_to_column_sum;
+use rectangle::lines::line_at;
+use rectangle::lines::put_row_parity;
+use rectangle::lines::read_into;
+use rectangle::sizes;
 use sweep::reading;
 ghost use mathlib.Core.Path.{_≡_};
 ghost use mathlib.Core.Bool.{true};
 ghost use Prim.Native.Nat.{_+_, _*_, _≤_};
 ghost use lib.ListN.{length, take};
 ghost use Rattle.line_table.specs.Table.{lineTable};
 ghost use Rattle.rectangle.specs.Store.{bytesAt};
-ghost use Rattle.rectangle.specs.Sweep.{PieceSums, PieceRead, LinesAdded, PieceSummed, RowUnswept, RowSwept, Unswept, Swept};
 ghost use Rattle.rectangle.specs.Tables.{TablesMade, makeTables};
+ghost use Rattle.tables.specs.Sweep.{PieceSums, PieceRead, LinesAdded, PieceSummed, RowUnswept, RowSwept, Unswept, Swept};
 
 // The exclusive or of some lines, and whether all of them are accepted; where one is faulty, the line is for no use.
 struct RowSum {
@@ -64,20 +64,21 @@ fn read_piece(
     true
 }
 
-// So many lines of a buffer, from line n on, each added to the row's sum, which is returned, and to its column's, from column c on. Lines
-// read alone have spare bits 0, and so have these sums, so that whole bytes are added.
+// So many lines of a buffer, from line n on, each added to the row's sum, which is returned, and to its column's, from this column on.
+// Lines read alone have spare bits 0, and so have these sums, so that whole bytes are added.
 fn add_lines(
     buffer: &[u8],
     n: usize,
     count: usize,
-    c: usize,
+    column: ColumnIndex,
     sum: [u8; 70],
     column_sums: &mut [u8],
 ) -> [u8; 70]
-    requires { ⌜ ((n + count) * 70 ≤ length (now buffer)) × (c + count ≤ 512) × (length (now «column_sums») ≡ 512 * 70) ⌝ }
-    ensures { λ r. ⌜ LinesAdded (λ i. bytesAt (now (buffer .entry)) (n + i)) count c (now («column_sums» .entry))
+    requires { ⌜ ((n + count) * 70 ≤ length (now buffer)) × (column .0 + count ≤ 512) × (length (now «column_sums») ≡ 512 * 70) ⌝ }
+    ensures { λ r. ⌜ LinesAdded (λ i. bytesAt (now (buffer .entry)) (n + i)) count (column .0) (now («column_sums» .entry))
         (now («column_sums» .exit)) sum r ⌝ }
 {
+    let c = column.0;
     let mut total = sum;
     let mut i = 0;
     while i < count {
@@ -97,21 +98,21 @@ fn sum_piece(
     lines: &[u8],
     n: usize,
     count: usize,
-    c: usize,
+    column: ColumnIndex,
     sum: [u8; 70],
     piece: &mut [u8],
     column_sums: &mut [u8],
 ) -> RowSum
     requires table { ⌜ now table ≡ lineTable ⌝ }
     requires inside { ⌜ (count ≤ 8) × ((n + count) * 70 ≤ length (now lines)) × (length (now piece) ≡ 8 * 70) ⌝ }
-    requires room { ⌜ (c + count ≤ 512) × (length (now «column_sums») ≡ 512 * 70) ⌝ }
-    ensures { λ r. ⌜ PieceSummed (now (lines .entry)) n count c (now («column_sums» .entry)) (now («column_sums» .exit)) sum
+    requires room { ⌜ (column .0 + count ≤ 512) × (length (now «column_sums») ≡ 512 * 70) ⌝ }
+    ensures { λ r. ⌜ PieceSummed (now (lines .entry)) n count (column .0) (now («column_sums» .entry)) (now («column_sums» .exit)) sum
         (r .line) (r .accepted) ⌝ }
 {
     let sums = sweep::sums_of_lines(table, lines, n, count);
     if all_untouched(lines, n, count, sums) {
         return RowSum {
-            line: add_lines(lines, n, count, c, sum, column_sums),
+            line: add_lines(lines, n, count, column, sum, column_sums),
             accepted: true,
         };
     }
@@ -122,7 +123,7 @@ fn sum_piece(
         };
     }
     RowSum {
-        line: add_lines(piece, 0, count, c, sum, column_sums),
+        line: add_lines(piece, 0, count, column, sum, column_sums),
         accepted: true,
     }
 }
@@ -149,7 +150,16 @@ fn sum_row(
         if 8 < count {
             count = 8;
         }
-        let next = sum_piece(table, lines, first + c, count, c, sum, piece, column_sums);
+        let next = sum_piece(
+            table,
+            lines,
+            first + c,
+            count,
+            ColumnIndex(c),
+            sum,
+            piece,
+            column_sums,
+        );
         if !next.accepted {
             return RowSum {
                 line: sum,

@@ -11,11 +11,11 @@ use Rattle.gf2.specs.Word.{Word, _⊕_, zeros}
 use Rattle.gf2.proofs.Xor.{xor-comm, xor-zeros, length-xor-same}
 use Rattle.linecode.specs.Places.{linePlaces, places, lineOf, xorBytes}
 use Rattle.scheme.specs.Visit.{sum}
 use Rattle.rectangle.specs.Store.{aloneAt, stride}
-use Rattle.rectangle.specs.Sweep.{Clean}
+use Rattle.tables.specs.Sweep.{Clean}
 use Rattle.rectangle.proofs.Stride.{sum-snoc}
 use Rattle.rectangle.proofs.Spare.{length-places, places-lineOf, lineOf-xor, none-zeros, none-line}
 use Rattle.rectangle.proofs.Alone.{length-alone}
 
 -- no line so far, or all places
 Whole : Word → Type 0
