@@ -11,7 +11,7 @@ use lib.Dec.{eqb}
 use Rattle.gf2.specs.Word.{Word}
 use Rattle.scheme.specs.Layer.{Reading}
 use Rattle.scheme.specs.Visit.{Group, State, visit}
-use Rattle.scheme.specs.Repair.{readAll, pass, faultyCount, Repaired, passesUpTo, passesFrom, repair}
+use Rattle.scheme.specs.Repair.{readAll, pass, faultyCount, Repaired, passesUpTo, passesFrom, LoopOfPasses, repair}
 use Rattle.scheme.specs.Demand3.{_∈_}
 use Rattle.scheme.proofs.Grows.{Grows, grows-refl, grows-trans, grows-count}
 use Rattle.scheme.proofs.Steps.{visit-grows, pass-grows}
@@ -128,6 +128,9 @@ module _ (read : Reading) (gs : List Group) where
   passes-none s =
       by-rounds (λ s r. (r .passes ≡ 0) ↔ (faultyCount s ≡ 0)) (λ s h. (λ e. h, λ e. refl))
       (λ s h e. omega arith) (λ s later h e. omega arith) s
+
+pub loop-of-passes : LoopOfPasses
+loop-of-passes = passes-equation
 
 first-idle : (read : Reading) (f : Group) (gs : List Group) (s : State) → pass read (f ∷ gs) s ≡ s → visit read f s ≡ s
 first-idle read f gs s e =
