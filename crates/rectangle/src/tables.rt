@@ -7,7 +7,6 @@ use crate::lines::put_row_parity;
 use crate::lines::read_into;
 use crate::sizes;
 use linecode::place;
-use sweep::reading;
 ghost use mathlib.Core.Path.{_≡_};
 ghost use mathlib.Core.Bool.{true};
 ghost use Prim.Native.Nat.{_+_, _*_, _≤_};
