@@ -11,10 +11,9 @@ use lib.Seq.{sets, set-getD}
 use Rattle.gf2.specs.Word.{Word, number}
 use Rattle.gf2.specs.Check.{columnSum}
 use Rattle.gf2.proofs.Digits.{number-lt}
-use Rattle.linecode.specs.Places.{linePlaces, places, lineOf}
+use Rattle.linecode.specs.Places.{linePlaces, places}
 use Rattle.linecode.specs.Code.{positions, protected, accepted, storedHamming, isCorrect}
 use Rattle.linecode.specs.Entry.{reading}
-use Rattle.linecode.specs.declared.alone.Reading.{Reading}
 use Rattle.linecode.proofs.Bytes.{Bytes, byte-at}
 use Rattle.linecode.proofs.Positions.{position-sum-lt}
 use Rattle.linecode.proofs.Codeword.{length-storedHamming, isCorrect-parts}

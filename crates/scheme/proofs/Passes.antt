@@ -50,11 +50,10 @@ module _ (read : Reading) (gs : List Group) where
       go false false e f =
           ap (round false false s after) (f (omega (arith, mends s e)) (omega (arith, mends s e)))
 
-  -- "While some line is faulty, a pass .. Passes end when none is faulty or a pass mended nothing"
-  pub passes-equation : (s : State) → passesFrom read gs s
-      ≡ cond (eqb (faultyCount s) 0) (record { cells = s; passes = 0 })
-      (cond (eqb (faultyCount (pass read gs s)) (faultyCount s)) (record { cells = pass read gs s; passes = 1 })
-      (record { cells = passesFrom read gs (pass read gs s) .cells; passes = suc (passesFrom read gs (pass read gs s) .passes) }))
+  -- a round of the loop, without its bound
+  passes-equation : (s : State) → passesFrom read gs s
+      ≡ round (eqb (faultyCount s) 0) (eqb (faultyCount (pass read gs s)) (faultyCount s)) s (pass read gs s)
+      (passesFrom read gs (pass read gs s))
   unfolding passesFrom
   passes-equation s = bound-free (faultyCount s) (suc (faultyCount s)) s (le-refl _) (omega arith) ∙ go _ refl
     where
