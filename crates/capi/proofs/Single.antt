@@ -8,12 +8,11 @@ use borrow.Author.Tests.{eq-eqb, ne-eqb}
 use lib.Dec.{T, eqb, ltb, ltb→lt}
 use lib.ListN.{length, getD, set}
 use lib.Seq.{paste}
-use Rattle.gf2.specs.Word.{Word}
-use Rattle.linecode.specs.Places.{dataBytes, lineBytes, places, lineOf, loaded}
-use Rattle.linecode.specs.Code.{dataOf, codeword}
+use Rattle.linecode.specs.Places.{dataBytes, lineBytes, loaded}
 use Rattle.linecode.specs.Entry.{written, reading}
 use Rattle.linecode.specs.declared.alone.Reading.{Reading}
-use Rattle.linecode.proofs.Loading.{copy-step, copied-over, data-loaded, loaded-whole}
+use Rattle.linecode.proofs.Loading.{copy-step, copied-over}
+use Rattle.linecode.proofs.LineLayout.{layout}
 use Rattle.capi.specs.Single.{Written, Answered, ifFaulty, writeRefusal, readRefusal, writeLine, readLine}
 
 -- ---- storing a line
@@ -46,11 +45,6 @@ module _ (payload line : List ℕ) where
   unfolding writeRefusal dataBytes lineBytes
   write-no-room e h = rw (eq-eqb (length payload) 64 e, ne-eqb (length line) 70 h)
 
-  -- what is written from the data as they were loaded
-  pub written-loaded : (l x : List ℕ) → length payload ≡ 64 → l ≡ loaded payload → x ≡ lineOf (codeword (dataOf (places l))) → x ≡ written payload
-  unfolding written
-  written-loaded l x e q f = f ∙ ap (λ (w : Word). lineOf (codeword w)) (data-loaded payload l e q)
-
   pub write-given : (l : List ℕ) → length payload ≡ 64 → length line ≡ 70 → l ≡ written payload
       → _≡_ {A = Written} (record { answer = 0; line = l }) (writeLine payload line)
   unfolding writeLine writeRefusal dataBytes lineBytes
@@ -75,7 +69,7 @@ module _ (line out : List ℕ) where
 
   -- what is read of the line as it was loaded
   pub read-loaded : (l : List ℕ) (r : Reading) → length line ≡ 70 → l ≡ loaded line → r ≡ reading l → r ≡ reading line
-  read-loaded l r e q f = f ∙ ap reading (q ∙ loaded-whole line e)
+  read-loaded l r e q f = f ∙ ap reading (q ∙ layout .whole line e)
 
   -- what was read, with the answer that its mark gives
   pub read-given : (a : ℕ) (l : List ℕ) (m : ℕ) → length line ≡ 70 → length out ≡ 70 → l ≡ reading line .line → m ≡ reading line .mark

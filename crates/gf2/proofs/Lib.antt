@@ -7,6 +7,7 @@ pub mod Linear
 pub mod Crc
 pub mod Register
 pub mod Hamming
+pub mod Linearity
 -- The generator, and the distance of its code: read Distance last.
 pub mod Coefficients
 pub mod Space

@@ -1,18 +1,20 @@
 -- The laws of a line's bytes and places that are promised upward.
-use mathlib.Core.Path.{_≡_, refl, sym, ap, _∙_}
+use mathlib.Core.Path.{_≡_, refl, sym, ap, ap₂, _∙_}
+use mathlib.Core.Bool.{false}
 use mathlib.Core.List.{List, [], _++_, append-assoc}
-use Prim.Native.Nat.{ℕ, _*_}
+use Prim.Native.Nat.{ℕ, _+_, _*_, _/_, _%_, _<_}
 use native.Mathlib.Omega.{arith}
-use lib.ListN.{length, take, replicate}
+use lib.ListN.{length, take, getD, replicate}
 use lib.Seq.{take-at}
 use Rattle.gf2.specs.Word.{Word, zeros}
+use Rattle.gf2.specs.Check.{bit}
 use Rattle.linecode.specs.Places.{protectedPlaces, linePlaces, lineBytes, bitsOf, loaded, places, lineOf}
 use Rattle.linecode.specs.Code.{codeword}
 use Rattle.linecode.specs.Entry.{written}
 use Rattle.linecode.specs.Promises.{Layout}
 use Rattle.linecode.proofs.Bytes.{length-bitsOf}
 use Rattle.linecode.proofs.Line.{data-is, places-is, bytes-is, length-places, length-lineOf, places-lineOf, lineOf-xor}
-use Rattle.linecode.proofs.Line.{length-front, places-line, crcEnd, hammingEnd, protected-place, protected-bit}
+use Rattle.linecode.proofs.Line.{length-front, places-line, crcEnd, hammingEnd, protected-place, protected-bit, hamming-bit}
 use Rattle.linecode.proofs.Loading.{data-loaded, loaded-whole}
 use Rattle.linecode.proofs.Codeword.{length-codeword}
 
@@ -26,6 +28,18 @@ none = refl
 blank : lineOf (zeros linePlaces) ≡ replicate 70 0
 unfolding lineOf lineBytes protectedPlaces linePlaces
 blank = refl
+
+hamming-bits : (line : List ℕ) → length line ≡ 70 → (k : ℕ) → k < 10
+    → getD (places line) (543 + k) false ≡ bit (k % 8) (getD line (68 + k / 8) 0)
+hamming-bits line e k h =
+    hamming-bit line e (543 + k) (omega arith) (omega arith)
+    ∙ ap₂ (λ (b y : ℕ). bit b (getD line y 0)) (rest k) (byte k)
+  where
+    rest : (k : ℕ) → (543 + k + 1) % 8 ≡ k % 8
+    rest k = omega arith
+
+    byte : (k : ℕ) → (543 + k + 1) / 8 ≡ 68 + k / 8
+    byte k = omega arith
 
 front : (line : List ℕ) → length line ≡ 70 → take 536 (places line) ≡ bitsOf (take 67 line)
 front line whole =
@@ -53,6 +67,7 @@ layout =
       none = none;
       blank = blank;
       bits = λ line e i h. protected-place line e i h ∙ protected-bit line e i h;
+      hammingBits = hamming-bits;
       front = front;
       whole = loaded-whole;
       loads = λ payload e. data-loaded payload (loaded payload) e refl;

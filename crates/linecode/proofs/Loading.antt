@@ -8,8 +8,10 @@ use native.Mathlib.Omega.{arith}
 use native.Mathlib.Decide.{decLe}
 use lib.ListN.{length, take, drop, getD, set, replicate, length-append, length-take, length-replicate, drop-of-length-le}
 use lib.Seq.{take-all, take-append-le, take-append-add, take-take, take-at, paste, paste-zero, paste-suc}
-use Rattle.linecode.specs.Places.{lineBytes, loaded, bitsOf, places}
-use Rattle.linecode.specs.Code.{dataOf}
+use Rattle.gf2.specs.Word.{Word}
+use Rattle.linecode.specs.Places.{lineBytes, loaded, bitsOf, places, lineOf}
+use Rattle.linecode.specs.Code.{dataOf, codeword}
+use Rattle.linecode.specs.Entry.{written}
 use Rattle.linecode.proofs.Line.{bytes-is, dataOf-line}
 
 abbrev pub blank : List ℕ
@@ -85,6 +87,11 @@ data-loaded s l e q =
   where
     long : min lineBytes (length (s ++ replicate lineBytes 0)) ≡ 70
     long = omega (arith, length-append s (replicate lineBytes 0), length-replicate {A = ℕ} lineBytes 0, bytes-is)
+
+-- what is written from 64 bytes as they were loaded
+pub written-loaded : (s l x : List ℕ) → length s ≡ 64 → l ≡ loaded s → x ≡ lineOf (codeword (dataOf (places l))) → x ≡ written s
+unfolding written
+written-loaded s l x e q f = f ∙ ap (λ (w : Word). lineOf (codeword w)) (data-loaded s l e q)
 
 pub loaded-whole : (s : List ℕ) → length s ≡ 70 → loaded s ≡ s
 unfolding loaded

@@ -17,28 +17,16 @@ use Rattle.gf2.proofs.Hamming.{hammingBit-bit}
 pub use Rattle.register.proofs.TableRule.{and-parts}
 use Rattle.register.proofs.TableRule.{alike, alike-sound, getD-map, getD-upFrom, length-upFrom}
 use Rattle.linecode.specs.Places.{hammingPlaces}
-use Rattle.linecode.specs.Code.{positions, PositionTable, hammingColumns, upFrom, member, hamming, withHamming}
+use Rattle.linecode.specs.Code.{positions, NamedPositions, PositionTable, hammingColumns, upFrom, member, hamming, withHamming}
 
--- ---- the table's rule, as document 01 gives it at four places
+-- ---- the positions that document 01 names
 pub length-positions : length positions ≡ 543
 unfolding positions
 length-positions = refl
 
-pub position-first : getD positions 0 0 ≡ 3
+pub named-positions : NamedPositions
 unfolding positions
-position-first = refl
-
-pub position-501 : getD positions 501 0 ≡ 511
-unfolding positions
-position-501 = refl
-
-pub position-502 : getD positions 502 0 ≡ 513
-unfolding positions
-position-502 = refl
-
-pub position-last : getD positions 542 0 ≡ 553
-unfolding positions
-position-last = refl
+named-positions = record { all = refl; first = refl; below512 = refl; above512 = refl; last = refl }
 
 -- ---- the table's rule by one computed test: it has the positions, ascending from 3, and no power of two
 abbrev ascends : ℕ → List ℕ → Bool

@@ -50,6 +50,14 @@ unfoldable pub positions : List ℕ
 unfolding hammingColumns hammingPlaces
 positions = without hammingColumns (upFrom 3 551)
 
+-- "place 0 has 3, place 501 has 511, place 502 has 513, place 542 has 553", and that is the last
+pub record NamedPositions : Type 0 where
+  pub all : length positions ≡ 543
+  pub first : getD positions 0 0 ≡ 3
+  pub below512 : getD positions 501 0 ≡ 511
+  pub above512 : getD positions 502 0 ≡ 513
+  pub last : getD positions 542 0 ≡ 553
+
 -- the rule of a table of the positions: it has them all, ascending and without powers of two
 pub record PositionTable (table : List ℕ) : Type 0 where
   pub all : table ≡ positions

@@ -3,7 +3,7 @@ use mathlib.Core.Path.{_≡_}
 use mathlib.Core.Logic.{_⊎_, _↔_}
 use mathlib.Core.Bool.{true, false}
 use mathlib.Core.List.{List, [], _++_}
-use Prim.Native.Nat.{ℕ, _/_, _%_, _^_, _≤_, _<_}
+use Prim.Native.Nat.{ℕ, _+_, _/_, _%_, _^_, _≤_, _<_}
 use lib.Dec.{T}
 use lib.ListN.{length, take, getD, replicate}
 use Rattle.gf2.specs.Word.{Word, _⊕_, zeros, distance}
@@ -34,7 +34,10 @@ pub record Layout : Type 0 where
   pub blank : lineOf (zeros linePlaces) ≡ replicate 70 0
   -- place i, below 543, is bit i mod 8 of byte i / 8
   pub bits : (line : List ℕ) → length line ≡ 70 → (i : ℕ) → i < 543 → getD (places line) i false ≡ bit (i % 8) (getD line (i / 8) 0)
-  -- so the first 536 places are the bits of the first 67 bytes
+  -- place 543+k, k from 0 to 9, is bit k mod 8 of byte 68 + k/8
+  pub hammingBits : (line : List ℕ) → length line ≡ 70 → (k : ℕ) → k < 10
+      → getD (places line) (543 + k) false ≡ bit (k % 8) (getD line (68 + k / 8) 0)
+  -- the first 536 places are the bits of the first 67 bytes
   pub front : (line : List ℕ) → length line ≡ 70 → take 536 (places line) ≡ bitsOf (take 67 line)
   -- 70 bytes are loaded as they stand
   pub whole : (s : List ℕ) → length s ≡ 70 → loaded s ≡ s

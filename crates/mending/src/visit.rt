@@ -17,7 +17,6 @@ use linecode::place;
 use rectangle::lines;
 use rectangle::lines::ColumnIndex;
 use rectangle::lines::RowIndex;
-use sweep::reading;
 
 // A faulty line is mended: the new line and its mark are written, and its row and its column learn of the change and have one faulty line
 // less.

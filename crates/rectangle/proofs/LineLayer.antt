@@ -10,11 +10,12 @@ use Rattle.gf2.specs.Word.{Word}
 use Rattle.linecode.specs.Places.{linePlaces, dataBytes, places, lineOf, loaded}
 use Rattle.linecode.specs.Code.{dataOf, codeword, Correct, isCorrect}
 use Rattle.linecode.specs.Reading.{readAlone}
-use Rattle.linecode.specs.Entry.{reading}
+use Rattle.linecode.specs.Entry.{written, reading}
 use Rattle.linecode.specs.Promises as Line
 use Rattle.linecode.specs.declared.alone.Reading.{Reading}
 use Rattle.linecode.proofs.Promises.{promises}
 use Rattle.linecode.proofs.LineLayout.{layout}
+use Rattle.linecode.proofs.Loading.{written-loaded}
 use Rattle.scheme.specs.Layer.{readLine, CorrectLine, parityAddress, ReadsAs, Promises}
 use Rattle.scheme.specs.Visit.{Group}
 use Rattle.rectangle.specs.Store.{readUnder, writeUnder, CorrectUnder, isCorrectUnder, lineLayer, bytesAt, placesAt, aloneAt, inBytes}
@@ -80,6 +81,5 @@ module _ (n : ℕ) (payload : List ℕ) where
   -- the data are loaded, and the rest written after them
   pub rewrites : length payload ≡ 64 → (found new : List ℕ) → found ≡ loaded payload → new ≡ lineOf (codeword (dataOf (places found)))
       → new ≡ lineOf (newLine n payload)
-  unfolding newLine writeUnder
-  rewrites e found new f g =
-      g ∙ ap (λ (l : List ℕ). lineOf (codeword (dataOf (places l)))) f ∙ ap (λ (w : Word). lineOf (codeword w)) (layout .loads payload e)
+  unfolding newLine writeUnder written
+  rewrites e found new f g = written-loaded payload found new e f g

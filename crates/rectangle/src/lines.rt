@@ -1,7 +1,6 @@
 // Lines in a lent buffer. The functions of this module are public because the crates above go through them alone; each asks that
 // the line lies inside the buffer, which the entry points have tested.
 use linecode::place;
-use sweep::reading;
 ghost use mathlib.Core.Path.{_≡_};
 ghost use Prim.Native.Nat.{suc, _*_, _≤_};
 ghost use lib.ListN.{length};

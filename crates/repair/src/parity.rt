@@ -13,7 +13,6 @@ use linecode::place;
 use rectangle::lines;
 use rectangle::lines::ColumnIndex;
 use rectangle::lines::RowIndex;
-use sweep::reading;
 
 // Whether each row's parity line is a correct line, whatever the number of columns.
 pub fn rows_correct(table: &[u64; 4096], rows: usize, row_table: &[u8]) -> bool

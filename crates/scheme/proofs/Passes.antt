@@ -11,7 +11,7 @@ use lib.Dec.{eqb}
 use Rattle.gf2.specs.Word.{Word}
 use Rattle.scheme.specs.Layer.{Reading}
 use Rattle.scheme.specs.Visit.{Group, State, visit}
-use Rattle.scheme.specs.Repair.{readAll, pass, faultyCount, Repaired, passesUpTo, passesFrom, repair}
+use Rattle.scheme.specs.Repair.{readAll, pass, faultyCount, Repaired, passesUpTo, passesFrom, LoopOfPasses, repair}
 use Rattle.scheme.specs.Demand3.{_∈_}
 use Rattle.scheme.proofs.Grows.{Grows, grows-refl, grows-trans, grows-count}
 use Rattle.scheme.proofs.Steps.{visit-grows, pass-grows}
@@ -50,11 +50,10 @@ module _ (read : Reading) (gs : List Group) where
       go false false e f =
           ap (round false false s after) (f (omega (arith, mends s e)) (omega (arith, mends s e)))
 
-  -- "While some line is faulty, a pass .. Passes end when none is faulty or a pass mended nothing"
-  pub passes-equation : (s : State) → passesFrom read gs s
-      ≡ cond (eqb (faultyCount s) 0) (record { cells = s; passes = 0 })
-      (cond (eqb (faultyCount (pass read gs s)) (faultyCount s)) (record { cells = pass read gs s; passes = 1 })
-      (record { cells = passesFrom read gs (pass read gs s) .cells; passes = suc (passesFrom read gs (pass read gs s) .passes) }))
+  -- a round of the loop, without its bound
+  passes-equation : (s : State) → passesFrom read gs s
+      ≡ round (eqb (faultyCount s) 0) (eqb (faultyCount (pass read gs s)) (faultyCount s)) s (pass read gs s)
+      (passesFrom read gs (pass read gs s))
   unfolding passesFrom
   passes-equation s = bound-free (faultyCount s) (suc (faultyCount s)) s (le-refl _) (omega arith) ∙ go _ refl
     where
@@ -128,6 +127,9 @@ module _ (read : Reading) (gs : List Group) where
   passes-none s =
       by-rounds (λ s r. (r .passes ≡ 0) ↔ (faultyCount s ≡ 0)) (λ s h. (λ e. h, λ e. refl))
       (λ s h e. omega arith) (λ s later h e. omega arith) s
+
+pub loop-of-passes : LoopOfPasses
+loop-of-passes = passes-equation
 
 first-idle : (read : Reading) (f : Group) (gs : List Group) (s : State) → pass read (f ∷ gs) s ≡ s → visit read f s ≡ s
 first-idle read f gs s e =

@@ -1,4 +1,5 @@
 -- Repair, as document 01 words it: the first reading, the passes and the answer.
+use mathlib.Core.Path.{_≡_}
 use mathlib.Core.Bool.{Bool, true, cond, _&&_}
 use mathlib.Core.List.{List, [], _∷_, map}
 use Prim.Native.Nat.{ℕ, zero, suc}
@@ -40,6 +41,17 @@ passesUpTo (suc k) read gs s =
 -- the passes from a store on; as each but the last mends some line, the faulty lines bound them
 unfoldable pub passesFrom : Reading → List Group → State → Repaired
 passesFrom read gs s = passesUpTo (faultyCount s) read gs s
+
+-- "While some line is faulty, a pass .. Passes end when none is faulty or a pass mended nothing": so from any store on, and the bound
+-- above cuts nothing off
+abbrev pub LoopOfPasses : Type 0
+LoopOfPasses =
+    (read : Reading) (gs : List Group) (s : State) → passesFrom read gs s
+    ≡ (let after = pass read gs s in
+    let later = passesFrom read gs after in
+    cond (eqb (faultyCount s) 0) (record { cells = s; passes = 0 })
+    (cond (eqb (faultyCount after) (faultyCount s)) (record { cells = after; passes = 1 })
+    (record { cells = later .cells; passes = suc (later .passes) })))
 
 -- repair of the lines found
 unfoldable pub repair : Reading → List Group → List Word → Repaired

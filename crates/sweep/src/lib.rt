@@ -1,7 +1,5 @@
 // Many lines: both sums of a line, for its CRC and for its Hamming bits, from one table that the entry point lends.
 // Public for the crates above, which bind the table once; what these functions ask, their entry points have made.
-pub mod reading;
-
 use register::words;
 ghost use mathlib.Core.Path.{_≡_};
 ghost use mathlib.Core.List.{List, [], _∷_, _++_};
@@ -170,8 +168,8 @@ pub fn sums_of_lines(table: &[u64; 4096], buffer: &[u8], n: usize, count: usize)
     sums
 }
 
-// Both sums of a line.
-fn sums_of(table: &[u64; 4096], line: [u8; 70]) -> u32
+// Both sums of a line. Public for `reading`, which reads single lines and looks again after a flip.
+pub fn sums_of(table: &[u64; 4096], line: [u8; 70]) -> u32
     requires { ⌜ now table ≡ lineTable ⌝ }
     ensures { λ r. ⌜ r ≡ bothSums (places line) ⌝ }
 {

@@ -7,7 +7,6 @@ use rectangle::lines::line_at;
 use rectangle::lines::put_row_parity;
 use rectangle::lines::read_into;
 use rectangle::sizes;
-use sweep::reading;
 ghost use mathlib.Core.Path.{_≡_};
 ghost use mathlib.Core.Bool.{true};
 ghost use Prim.Native.Nat.{_+_, _*_, _≤_};

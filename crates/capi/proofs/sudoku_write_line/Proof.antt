@@ -2,7 +2,8 @@
 use native.Mathlib.Omega.{arith}
 use borrow.Author.Needs.{needs}
 use mathlib.Core.Path.{_∙_}
-use Rattle.capi.proofs.Single.{write-refused, write-no-data, write-no-room, written-loaded, write-given}
+use Rattle.linecode.proofs.Loading.{written-loaded}
+use Rattle.capi.proofs.Single.{write-refused, write-no-data, write-no-room, write-given}
 use Rattle.capi.proofs.sudoku_write_line.Statement.{statement}
 use Rattle.capi.proofs.sudoku_write_line.Tie as tie
 
@@ -40,7 +41,7 @@ returns-3 c =
     let whole = room .before .if1 .left in
     write-given (a .payload .now) (a .line .now) (put .store .last .1 .0) whole (room .if2 .left)
     (put .store .ensures
-    ∙ written-loaded (a .payload .now) (a .line .now) (found .load .result) (rewritten .rewrite .result) whole (found .load .ensures) (rewritten .rewrite .ensures))
+    ∙ written-loaded (a .payload .now) (found .load .result) (rewritten .rewrite .result) whole (found .load .ensures) (rewritten .rewrite .ensures))
 
 pub sudoku-write-line-spec : {M : Type 1} → statement M
 sudoku-write-line-spec =

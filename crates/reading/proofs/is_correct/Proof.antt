@@ -1,13 +1,13 @@
--- `sweep::reading::is_correct` meets its contract.
+-- `reading::is_correct` meets its contract.
 use mathlib.Core.Path.{ap, _∙_}
 use Prim.Native.Nat.{ℕ}
 use borrow.Author.Needs.{needs}
 use lib.Dec.{eqb}
 use Rattle.linecode.proofs.Bytes.{array-length}
 use Rattle.linecode.proofs.Line.{length-places}
-use Rattle.sweep.proofs.BothSums.{correct-sums}
-use Rattle.sweep.proofs.reading.is_correct.Statement.{statement}
-use Rattle.sweep.proofs.reading.is_correct.Tie as tie
+use Rattle.reading.proofs.Telling.{correct-sums}
+use Rattle.reading.proofs.is_correct.Statement.{statement}
+use Rattle.reading.proofs.is_correct.Tie as tie
 
 sums-of-requires : tie.Need-sums-of-requires
 sums-of-requires c κs = search needs

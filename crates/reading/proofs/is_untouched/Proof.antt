@@ -1,13 +1,13 @@
--- `sweep::reading::is_untouched` meets its contract.
+-- `reading::is_untouched` meets its contract.
 use mathlib.Core.Path.{sym}
 use mathlib.Core.Bool.{true≢false}
 use native.Mathlib.Omega.{arith}
 use borrow.Author.Tests.{eqb-true}
 use Rattle.linecode.proofs.Bytes.{array-length, array-bytes, array-byte}
-use Rattle.sweep.proofs.BothSums.{untouched}
+use Rattle.reading.proofs.Telling.{untouched}
 use borrow.Author.Needs.{needs}
-use Rattle.sweep.proofs.reading.is_untouched.Statement.{statement}
-use Rattle.sweep.proofs.reading.is_untouched.Tie as tie
+use Rattle.reading.proofs.is_untouched.Statement.{statement}
+use Rattle.reading.proofs.is_untouched.Tie as tie
 
 array-read-if1 : tie.Need-array-read-if1
 array-read-if1 c = search needs

@@ -1,4 +1,4 @@
--- `sweep::reading::read_hurt` meets its contract: each way out is one of the corrector's cases.
+-- `reading::read_hurt` meets its contract: each way out is one of the corrector's cases.
 use borrow.Author.Needs.{needs}
 use mathlib.Core.Path.{_≡_, sym, ap, ap₂, _∙_}
 use mathlib.Core.Bool.{Bool, true, false}
@@ -13,9 +13,9 @@ use Rattle.linecode.proofs.Bytes.{array-length}
 use Rattle.linecode.proofs.Line.{length-places}
 use Rattle.linecode.proofs.Syndrome.{syndrome-parts}
 use Rattle.linecode.proofs.ReadAlone.{unnamed, second-look, in-bytes}
-use Rattle.sweep.proofs.BothSums.{lower-half, below, above}
-use Rattle.sweep.proofs.reading.read_hurt.Statement.{statement}
-use Rattle.sweep.proofs.reading.read_hurt.Tie as tie
+use Rattle.reading.proofs.Telling.{lower-half, below, above}
+use Rattle.reading.proofs.read_hurt.Statement.{statement}
+use Rattle.reading.proofs.read_hurt.Tie as tie
 
 stored-requires : tie.Need-stored-requires
 stored-requires c κs = search needs

@@ -1,10 +1,10 @@
 // Reading a line alone where many are read: both sums of a line come from the lent table (document 000, III-C). Public for the crates
 // above, which bind the table once.
-use crate::sums_of;
 use linecode::alone::Reading;
 use linecode::hamming;
 use linecode::hamming::Answer;
 use linecode::place;
+use sweep::sums_of;
 ghost use mathlib.Core.Path.{_≡_};
 ghost use mathlib.Core.Bool.{true, false};
 ghost use lib.Dec.{eqb};

@@ -1,4 +1,4 @@
--- `sweep::reading::read_summed` meets its contract: an accepted line is read here, any other as a hurt one.
+-- `reading::read_summed` meets its contract: an accepted line is read here, any other as a hurt one.
 use mathlib.Core.Path.{ap, _∙_}
 use mathlib.Core.List.{List}
 use Prim.Native.Nat.{ℕ}
@@ -7,11 +7,11 @@ use Rattle.linecode.specs.Places.{places}
 use Rattle.linecode.specs.Code.{protected}
 use Rattle.linecode.proofs.Positions.{position-sum-lt}
 use Rattle.linecode.proofs.ReadAlone.{read-clean, in-bytes}
-use Rattle.sweep.proofs.BothSums.{below, above}
-use Rattle.sweep.proofs.reading.read_summed.Statement.{statement}
-use Rattle.sweep.proofs.reading.read_summed.Tie as tie
+use Rattle.reading.proofs.Telling.{below, above}
+use Rattle.reading.proofs.read_summed.Statement.{statement}
+use Rattle.reading.proofs.read_summed.Tie as tie
 use Rattle.linecode.proofs.hamming.with_bits.Reads as with-bits-reads
-use Rattle.sweep.proofs.reading.read_hurt.Reads as read-hurt-reads
+use Rattle.reading.proofs.read_hurt.Reads as read-hurt-reads
 
 cast-with-bits : tie.Need-cast-with-bits
 cast-with-bits c = omega arith

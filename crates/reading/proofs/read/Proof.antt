@@ -1,7 +1,7 @@
--- `sweep::reading::read` meets its contract.
+-- `reading::read` meets its contract.
 use borrow.Author.Needs.{needs}
-use Rattle.sweep.proofs.reading.read.Statement.{statement}
-use Rattle.sweep.proofs.reading.read.Tie as tie
+use Rattle.reading.proofs.read.Statement.{statement}
+use Rattle.reading.proofs.read.Tie as tie
 
 sums-of-requires : tie.Need-sums-of-requires
 sums-of-requires c κs = search needs

@@ -1,0 +1,105 @@
+-- What both sums of a line tell, by whether their number is below 65536.
+use mathlib.Core.Path.{_≡_, refl, sym, ap, ap₂, _∙_, subst}
+use mathlib.Core.Bool.{Bool, true, false, _&&_}
+use mathlib.Core.List.{List, [], _∷_}
+use Prim.Native.Nat.{ℕ, _+_, _-_, _*_, _/_, _%_, _^_, _≤_, _<_}
+use native.Mathlib.Omega.{arith}
+use borrow.Author.Tests.{ne-eqb}
+use lib.Dec.{eqb}
+use lib.ListN.{length, getD, set}
+use lib.Seq.{sets, set-getD}
+use Rattle.gf2.specs.Word.{Word, number}
+use Rattle.gf2.specs.Check.{columnSum}
+use Rattle.gf2.proofs.Digits.{number-lt}
+use Rattle.linecode.specs.Places.{linePlaces, places}
+use Rattle.linecode.specs.Code.{positions, protected, accepted, storedHamming, isCorrect}
+use Rattle.linecode.specs.Entry.{reading}
+use Rattle.linecode.proofs.Bytes.{Bytes, byte-at}
+use Rattle.linecode.proofs.Positions.{position-sum-lt}
+use Rattle.linecode.proofs.Codeword.{length-storedHamming, isCorrect-parts}
+use Rattle.linecode.proofs.Stores.{stored-sum}
+use Rattle.linecode.proofs.ReadAlone.{read-clean, in-bytes}
+use Rattle.sweep.specs.Sums.{bothSums}
+use Rattle.sweep.proofs.BothSums.{sums-when}
+
+module _ (w : Word) (s : ℕ) (e : s ≡ bothSums w) where
+  by-test : (b : Bool) → accepted w ≡ b
+      → (s < 65536 → (accepted w ≡ true) × (s ≡ columnSum positions (protected w)))
+      × (65536 ≤ s → (accepted w ≡ false) × (s - 65536 ≡ columnSum positions (protected w)))
+  by-test true q =
+      let p = columnSum positions (protected w) in
+      let whole = e ∙ sums-when w true q in
+      let small = position-sum-lt (protected w) in (
+        λ h. (q, omega arith),
+        λ h. let z : ⊥ = omega arith in absurd z,
+      )
+  by-test false q =
+      let whole = e ∙ sums-when w false q in (
+        λ h. let z : ⊥ = omega arith in absurd z,
+        λ h. (q, omega arith),
+      )
+
+  -- its lower half is the sum of positions either way
+  pub lower-half : s % 65536 ≡ columnSum positions (protected w)
+  lower-half = go (accepted w) refl
+    where
+      go : (b : Bool) → accepted w ≡ b → s % 65536 ≡ columnSum positions (protected w)
+      go true q =
+          let whole = e ∙ sums-when w true q in
+          let small = position-sum-lt (protected w) in
+          omega arith
+      go false q =
+          let whole = e ∙ sums-when w false q in
+          let small = position-sum-lt (protected w) in
+          omega arith
+
+  pub below : s < 65536 → (accepted w ≡ true) × (s ≡ columnSum positions (protected w))
+  below = by-test (accepted w) refl .0
+
+  pub above : 65536 ≤ s → (accepted w ≡ false) × (s - 65536 ≡ columnSum positions (protected w))
+  above = by-test (accepted w) refl .1
+
+-- the number of a correct line is that of its Hamming bits
+pub correct-sums : (w : Word) (n : ℕ) → length w ≡ linePlaces → n ≡ number (storedHamming w)
+    → eqb (bothSums w) n ≡ isCorrect w
+correct-sums w n whole e = go (accepted w) refl ∙ sym (isCorrect-parts w whole)
+  where
+    sum-alone : (k : ℕ) → k + 0 ≡ k
+    sum-alone k = omega arith
+
+    small : number (storedHamming w) < 1024
+    small = subst (λ (k : ℕ). number (storedHamming w) < 2 ^ k) (length-storedHamming w whole) (number-lt (storedHamming w))
+
+    far : columnSum positions (protected w) + 65536 ≡ n → ⊥
+    far z = omega (arith, small)
+
+    go : (b : Bool) → accepted w ≡ b → eqb (bothSums w) n ≡ accepted w && eqb (columnSum positions (protected w)) (number (storedHamming w))
+    go true q =
+        ap₂ eqb (sums-when w true q ∙ sum-alone _) e
+        ∙ ap (λ (b : Bool). b && eqb (columnSum positions (protected w)) (number (storedHamming w))) (sym q)
+    go false q =
+        ap (λ (k : ℕ). eqb k n) (sums-when w false q)
+        ∙ ne-eqb (columnSum positions (protected w) + 65536) n far
+        ∙ ap (λ (b : Bool). b && eqb (columnSum positions (protected w)) (number (storedHamming w))) (sym q)
+
+-- a line whose number is that of its last two bytes, and whose spare bit is 0, reads as it stands
+pub untouched : (l : List ℕ) (s : ℕ) → length l ≡ 70 → Bytes l → s ≡ bothSums (places l)
+    → getD l 67 0 < 128 → s ≡ getD l 68 0 + 256 * getD l 69 0 → reading l ≡ record { line = l; mark = 0 }
+untouched l s whole bytes e h q =
+    let small : s < 65536 = omega (arith, byte-at l 68 bytes, byte-at l 69 bytes) in
+    let b = below (places l) s e small in
+    let low : s % 256 ≡ getD l 68 0 = omega (arith, byte-at l 68 bytes) in
+    let high : s / 256 ≡ getD l 69 0 = omega (arith, byte-at l 68 bytes) in
+    let kept : getD l 67 0 % 128 ≡ getD l 67 0 = omega arith in
+    sym (in-bytes l _ (read-clean (places l) (b .0)))
+    ∙ ap (λ (x : List ℕ). record { line = x; mark = 0 })
+    (sym (stored-sum l whole bytes s (b .1))
+    ∙ ap (λ (x : ℕ). sets l 67 (x ∷ s % 256 ∷ s / 256 ∷ [])) kept
+    ∙ ap₂ (λ (y z : ℕ). sets l 67 (getD l 67 0 ∷ y ∷ z ∷ [])) low high
+    ∙ same)
+  where
+    same : sets l 67 (getD l 67 0 ∷ getD l 68 0 ∷ getD l 69 0 ∷ []) ≡ l
+    same =
+        ap (λ (t : List ℕ). set (set t 68 (getD l 68 0)) 69 (getD l 69 0)) (set-getD l 67 0)
+        ∙ ap (λ (t : List ℕ). set t 69 (getD l 69 0)) (set-getD l 68 0)
+        ∙ set-getD l 69 0
