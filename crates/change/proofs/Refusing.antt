@@ -26,14 +26,16 @@ module _ (rows columns : ℕ) (lines rowTable columnTable : List ℕ) where
     pub line-room : suc n * 70 ≤ length lines
     line-room = line-bytes rows columns (length lines) (omega (arith, p .lineBytes)) n inside
 
-    pub row-room : suc (n / columns) * 70 ≤ length rowTable
-    row-room =
-        let last : suc (n / columns) * 70 ≤ rows * 70 = mul-le-mul-right 70 (row-below rows columns some-columns n inside) in
+    pub row-room : (r : ℕ) → r ≡ n / columns → suc r * 70 ≤ length rowTable
+    row-room r e =
+        let below : r < rows = omega (arith, row-below rows columns some-columns n inside) in
+        let last : suc r * 70 ≤ rows * 70 = mul-le-mul-right 70 below in
         omega (arith, p .rowBytes)
 
-    pub column-room : suc (n % columns) * 70 ≤ length columnTable
-    column-room =
-        let last : suc (n % columns) * 70 ≤ columns * 70 = mul-le-mul-right 70 (column-below rows columns some-columns n) in
+    pub column-room : (c : ℕ) → c ≡ n % columns → suc c * 70 ≤ length columnTable
+    column-room c e =
+        let below : c < columns = omega (arith, column-below rows columns some-columns n) in
+        let last : suc c * 70 ≤ columns * 70 = mul-le-mul-right 70 below in
         omega (arith, p .columnBytes)
 
   module _ (n : ℕ) (payload : List ℕ) where

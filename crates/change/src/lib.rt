@@ -6,9 +6,11 @@ use rectangle::lines::ColumnIndex;
 use rectangle::lines::RowIndex;
 use rectangle::lines::add_to_column;
 use rectangle::lines::add_to_row;
+use rectangle::lines::column_of;
 use rectangle::lines::column_parity;
 use rectangle::lines::line_at;
 use rectangle::lines::put_line;
+use rectangle::lines::row_of;
 use rectangle::lines::row_parity;
 use rectangle::sizes;
 use single::alone;
@@ -76,9 +78,9 @@ fn refusal(
         return 8;
     }
     // What refusals 9 and 10 ask, and then both in their order.
-    let r = n / columns;
-    let c = n % columns;
-    let correct = parities_correct(row_table, RowIndex(r), column_table, ColumnIndex(c));
+    let row = row_of(columns, n);
+    let column = column_of(columns, n);
+    let correct = parities_correct(row_table, row, column_table, column);
     let read = alone_at(lines, n);
     let mark = read.mark;
     if !correct {
@@ -119,9 +121,9 @@ pub fn change_line(
     let new = alone::rewrite(place::load(payload));
     let both = place::xor_lines(old, new);
     put_line(lines, n, new);
-    let r = n / columns;
-    add_to_row(row_table, RowIndex(r), both);
-    let c = n % columns;
-    add_to_column(column_table, ColumnIndex(c), both);
+    let row = row_of(columns, n);
+    add_to_row(row_table, row, both);
+    let column = column_of(columns, n);
+    add_to_column(column_table, column, both);
     0
 }

@@ -22,7 +22,7 @@ use rectangle::lines::RowIndex;
 // of the row changes them.
 struct OpenRow {
     difference: [u8; 70],
-    faulty: u16,
+    hurt: u16,
 }
 
 // So many lines, at most eight, from line n on are read alone into the line buffer, their marks into the mark buffer.
@@ -50,8 +50,8 @@ fn read_piece(
     }
 }
 
-// The same lines, now in the line buffer, are added to their row's difference and to their columns', which begin at column c; a faulty
-// one counts in both.
+// The same lines, now in the line buffer, are added to their row's difference and to their columns', from the given one on; a faulty one
+// counts in both.
 fn add_piece(
     out: &[u8],
     marks: &[u8],
@@ -59,36 +59,33 @@ fn add_piece(
     faulty: &mut [u16],
     rows: usize,
     n: usize,
-    c: usize,
+    column: ColumnIndex,
     count: usize,
     row: OpenRow,
 ) -> OpenRow
-    requires { ⌜ SomePiece rows (now out) (now marks) (now lacks) (now faulty) n c count (row .difference) (row .faulty) ⌝ }
+    requires { ⌜ SomePiece rows (now out) (now marks) (now lacks) (now faulty) n (column .0) count (row .difference) (row .hurt) ⌝ }
     ensures { λ s. ⌜ ((columns : ℕ) (parity : ℕ → Word) (found : List ℕ) (r : ℕ)
         → Piece rows columns parity found (now (out .entry)) (now (marks .entry)) (now (lacks .entry)) (now (faulty .entry))
-        r n c count (row .difference) (row .faulty)
-        → RowOpen rows columns parity found (now (lacks .exit)) (now (faulty .exit)) r (n + count) (s .difference) (s .faulty)) ⌝ }
+        r n (column .0) count (row .difference) (row .hurt)
+        → RowOpen rows columns parity found (now (lacks .exit)) (now (faulty .exit)) r (n + count) (s .difference) (s .hurt)) ⌝ }
 {
     let mut difference = row.difference;
-    let mut hurt = row.faulty;
+    let mut hurt = row.hurt;
     let mut i = 0;
     while i < count {
         let m = n + i;
-        let k = c + i;
+        let own = ColumnIndex(column.0 + i);
         let line = lines::line_at(out, m);
         let next = place::xor_bytes(difference, line);
         difference = next;
-        tracked::add_to_column(lacks, rows, ColumnIndex(k), line);
+        tracked::add_to_column(lacks, rows, own, line);
         if marks[m] == 4 {
             hurt += 1;
-            tracked::one_more_in_column(faulty, rows, ColumnIndex(k));
+            tracked::one_more_in_column(faulty, rows, own);
         }
         i += 1;
     }
-    OpenRow {
-        difference,
-        faulty: hurt,
-    }
+    OpenRow { difference, hurt }
 }
 
 // How many lines make a piece, of those left in the row.
@@ -102,7 +99,7 @@ fn piece(left: usize) -> usize
     left
 }
 
-// Row r, in pieces, each of whose lines are all summed, then all copied, then all added: so the processor works on several lines at a
+// One row, in pieces, each of whose lines are all summed, then all copied, then all added: so the processor works on several lines at a
 // time, and a piece is no longer than the stores that may wait for the line buffer's memory.
 fn read_row(
     table: &[u64; 4096],
@@ -113,37 +110,35 @@ fn read_row(
     faulty: &mut [u16],
     rows: usize,
     columns: usize,
-    r: usize,
+    row: RowIndex,
     first: usize,
 )
     requires table { ⌜ now table ≡ lineTable ⌝ }
     requires room { ⌜ Room rows columns (now out) (now marks) (now lacks) (now faulty) ⌝ }
-    requires row { ⌜ (length (now found) ≡ rows * columns * 70) × (r < rows) × (first ≡ r * columns) ⌝ }
+    requires row { ⌜ (length (now found) ≡ rows * columns * 70) × (row .0 < rows) × (first ≡ row .0 * columns) ⌝ }
     requires some { ⌜ ((parity : (ℕ → Word))
         × ReadUpTo rows columns parity (now found) (now out) (now marks) (now lacks) (now faulty) first) ⌝ }
     ensures { λ _. ⌜ ReadsOn rows columns (now (found .entry))
         (now (out .entry)) (now (marks .entry)) (now (lacks .entry)) (now (faulty .entry))
         (now (out .exit)) (now (marks .exit)) (now (lacks .exit)) (now (faulty .exit)) first (first + columns) ⌝ }
 {
-    let mut difference = tracked::difference(lacks, rows, Which::Row(RowIndex(r)));
-    let mut hurt = tracked::count(faulty, rows, Which::Row(RowIndex(r)));
+    let mut difference = tracked::difference(lacks, rows, Which::Row(row));
+    let mut hurt = tracked::count(faulty, rows, Which::Row(row));
     let mut c = 0;
     while c < columns {
         let count = piece(columns - c);
         let n = first + c;
         read_piece(table, found, out, marks, n, count);
-        let row = OpenRow {
-            difference,
-            faulty: hurt,
-        };
-        let next = add_piece(out, marks, lacks, faulty, rows, n, c, count, row);
+        let open = OpenRow { difference, hurt };
+        let column = ColumnIndex(c);
+        let next = add_piece(out, marks, lacks, faulty, rows, n, column, count, open);
         let sum = next.difference;
         difference = sum;
-        hurt = next.faulty;
+        hurt = next.hurt;
         c += count;
     }
-    tracked::put_row_difference(lacks, RowIndex(r), difference);
-    tracked::put_row_count(faulty, RowIndex(r), hurt);
+    tracked::put_row_difference(lacks, row, difference);
+    tracked::put_row_count(faulty, row, hurt);
 }
 
 // All rows are read.
@@ -177,7 +172,7 @@ pub fn read_all(
             faulty,
             rows,
             columns,
-            r,
+            RowIndex(r),
             first,
         );
         first += columns;

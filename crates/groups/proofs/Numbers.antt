@@ -13,11 +13,9 @@ use Rattle.scheme.specs.Demand3.{_∈_, Rising}
 use Rattle.rectangle.specs.Store.{row, column}
 use Rattle.rectangle.proofs.Groups.{in-row, row-number, row-inside, row-below, in-column, column-number, column-inside, rising-row, rising-column}
 use Rattle.rectangle.proofs.Stride.{length-stride}
-use Rattle.groups.specs.Lent.{whichOf, numberOf, membersOf, Numbered}
+use Rattle.groups.specs.Lent.{whichOf, numberOf, Within, membersOf, Numbered}
 use Rattle.groups.specs.declared.tracked.Which.{Which}
 use Rattle.groups.specs.declared.tracked.Which.the-variants.{Row, Column}
-use Rattle.rectangle.specs.declared.lines.RowIndex.{RowIndex}
-use Rattle.rectangle.specs.declared.lines.ColumnIndex.{ColumnIndex}
 
 -- ---- group k as a row or a column
 module _ (rows k : ℕ) where
@@ -29,16 +27,13 @@ module _ (rows k : ℕ) where
       go true e = refl
       go false e = let low : rows ≤ k = ltb-false k rows e in omega arith
 
-  pub which-row : (r : RowIndex) → whichOf rows k ≡ Row r → (r .0 ≡ k) × (k < rows)
+  pub which-within : (columns : ℕ) → k < rows + columns → Within rows columns (whichOf rows k)
   unfolding whichOf
-  which-row r q = (sym (ap (numberOf rows) q) ∙ which-number, go (ltb k rows) refl q)
+  which-within columns h = go (ltb k rows) refl
     where
-      go : (b : Bool) → ltb k rows ≡ b → cond b (Row (record { 0 = k })) (Column (record { 0 = k - rows })) ≡ Row r → k < rows
-      go true e p = ltb-true k rows e
-      go false e p = let z : _≡_ {A = ℕ} 0 1 = cc in omega arith
-
-  pub which-column : (c : ColumnIndex) → whichOf rows k ≡ Column c → rows + c .0 ≡ k
-  which-column c q = sym (ap (numberOf rows) q) ∙ which-number
+      go : (b : Bool) → ltb k rows ≡ b → Within rows columns (cond b (Row (record { 0 = k })) (Column (record { 0 = k - rows })))
+      go true e = ltb-true k rows e
+      go false e = let low : rows ≤ k = ltb-false k rows e in omega arith
 
 pub past : (rows c : ℕ) → rows + c - rows ≡ c
 past rows c = omega arith
@@ -142,7 +137,3 @@ module _ (rows columns : ℕ) (rl : 2 ≤ rows) (rh : rows ≤ 512) (cl : 2 ≤ 
   any-numbered =
       by-number rows columns (λ k. (first : ℕ) × (step : ℕ) × (count : ℕ) × Numbered rows columns k first step count)
       (λ r h. (r * columns, 1, columns, row-numbered r h)) (λ c h. (c, columns, rows, column-numbered c h))
-
--- the same under another number
-pub renumber : (rows columns j k first step count : ℕ) → j ≡ k → Numbered rows columns k first step count → Numbered rows columns j first step count
-renumber rows columns j k first step count e n = subst (λ (i : ℕ). Numbered rows columns i first step count) (sym e) n

@@ -66,6 +66,11 @@ abbrev pub numberOf : ℕ → Which → ℕ
 numberOf rows (Row r) = r .0
 numberOf rows (Column c) = rows + c .0
 
+-- a row or a column of a rectangle
+abbrev pub Within : ℕ → ℕ → Which → Type 0
+Within rows columns (Row r) = r .0 < rows
+Within rows columns (Column c) = c .0 < columns
+
 -- the lines of group k in visiting order: the rows, then the columns
 unfoldable pub membersOf : ℕ → ℕ → ℕ → List ℕ
 membersOf rows columns k = cond (ltb k rows) (row columns k) (column rows columns (k - rows))

@@ -11,7 +11,7 @@ ghost use Rattle.linecode.specs.Code.{upFrom};
 ghost use Rattle.scheme.specs.Visit.{setPlaces};
 ghost use Rattle.rectangle.specs.Store.{bytesAt, stride};
 ghost use Rattle.rectangle.specs.Refusals.{every};
-ghost use Rattle.groups.specs.Lent.{Inside, faultyAmong, Listed, allZero, Numbered, whichOf, numberOf, countTo};
+ghost use Rattle.groups.specs.Lent.{Inside, faultyAmong, Listed, allZero, Within, Numbered, whichOf, numberOf, countTo};
 use crate::tracked::Which;
 use linecode::place;
 use rectangle::lines::ColumnIndex;
@@ -42,12 +42,11 @@ pub fn nth(rows: usize, k: usize) -> Which
     }
 }
 
-// The same with its lines.
-pub fn choose(rows: usize, columns: usize, k: usize) -> Chosen
-    requires { ⌜ (2 ≤ rows) × (rows ≤ 512) × (2 ≤ columns) × (columns ≤ 512) × (k < rows + columns) ⌝ }
-    ensures { λ r. ⌜ (numberOf rows (r .which) ≡ k) × Numbered rows columns k (r .first) (r .step) (r .count) ⌝ }
+// A group with its lines.
+pub fn choose(rows: usize, columns: usize, which: Which) -> Chosen
+    requires { ⌜ (2 ≤ rows) × (rows ≤ 512) × (2 ≤ columns) × (columns ≤ 512) × Within rows columns which ⌝ }
+    ensures { λ r. ⌜ (r .which ≡ which) × Numbered rows columns (numberOf rows (r .which)) (r .first) (r .step) (r .count) ⌝ }
 {
-    let which = nth(rows, k);
     match which {
         Which::Row(row) => Chosen {
             which,

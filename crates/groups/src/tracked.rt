@@ -1,6 +1,7 @@
 // The line and the number that stand beside each group: its difference, that is the exclusive or of its parity line and its lines as they
-// stand, and how many of its lines are faulty. A row's are reached by its RowIndex, a column's by its ColumnIndex. Only this module knows
-// where they are kept: all differences in one buffer and all counts in another, the rows' first, the columns' from number `rows` on.
+// stand, and how many of its lines are faulty. A row's are reached by its RowIndex, a column's by its ColumnIndex. No other body knows
+// where they are kept, though contracts say it: all differences in one buffer and all counts in another, the rows' first, the columns'
+// from number `rows` on.
 // Public for `mending`, `first_reading` and `repair`, which have tested or made what these ask; not entry points.
 ghost use mathlib.Core.Path.{_≡_};
 ghost use Prim.Native.Nat.{_+_, _-_, _≤_, _<_};

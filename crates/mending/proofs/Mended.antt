@@ -31,9 +31,13 @@ some-there : (n : ℕ) (l : List ℕ) → n ∈ l → 0 < length l
 some-there n [] i = absurd i
 some-there n (m ∷ l) i = omega arith
 
+-- a line's row and column under other names
+named : (columns n : ℕ) (P : ℕ → ℕ → Type 0) → P (n / columns) (n % columns) → (r c : ℕ) → r ≡ n / columns → c ≡ n % columns → P r c
+named columns n P h r c e f = subst (λ (i : ℕ). P i c) (sym e) (subst (P (n / columns)) (sym f) h)
+
 module _ (rows columns : ℕ) (out marks lacks faulty : List ℕ) (room : Room rows columns out marks lacks faulty) (n : ℕ)
     (inside : n < rows * columns) where
-  some-columns : 0 < columns
+  pub some-columns : 0 < columns
   some-columns = omega (arith, room .rect .columnsLow)
 
   pub row-listed : n / columns < rows
@@ -54,18 +58,22 @@ module _ (rows columns : ℕ) (out marks lacks faulty : List ℕ) (room : Room r
           some-there n (faultyOf s (membersOf rows columns k)) (selects (λ m. isFaulty (cellAt s m)) (membersOf rows columns k) n i e),
         )
 
-    pub row-counted : 0 < getD faulty (n / columns) 0
-    row-counted = counted (n / columns) (omega (arith, row-listed)) (home-row rows columns some-columns n inside)
+    pub row-counted : (r : ℕ) → r ≡ n / columns → 0 < getD faulty r 0
+    row-counted r e =
+        subst (λ (i : ℕ). 0 < getD faulty i 0) (sym e)
+        (counted (n / columns) (omega (arith, row-listed)) (home-row rows columns some-columns n inside))
 
     -- the column has it still when the row has one less
-    pub column-counted : (mid : List ℕ) → mid ≡ set faulty (n / columns) (getD faulty (n / columns) 0 - 1)
-        → 0 < getD mid (rows + n % columns) 0
-    column-counted mid e =
+    pub column-counted : (mid : List ℕ) (r c : ℕ) → r ≡ n / columns → c ≡ n % columns → mid ≡ set faulty r (getD faulty r 0 - 1)
+        → 0 < getD mid (rows + c) 0
+    column-counted mid =
+        named columns n (λ r c. mid ≡ set faulty r (getD faulty r 0 - 1) → 0 < getD mid (rows + c) 0)
+        (λ e.
         subst (λ (x : ℕ). 0 < x)
         (sym
         (ap (λ (l : List ℕ). getD l (rows + n % columns) 0) e
         ∙ getD-set-other faulty (n / columns) (rows + n % columns) _ 0 (λ (x : rows + n % columns ≡ n / columns). omega (arith, row-listed))))
-        (counted (rows + n % columns) (omega (arith, column-listed)) (home-column rows columns some-columns n inside))
+        (counted (rows + n % columns) (omega (arith, column-listed)) (home-column rows columns some-columns n inside)))
 
   module _ (parity : ℕ → Word) (s : State) (c : Carried rows columns parity out marks lacks faulty s) (bad : getD marks n 0 ≡ 4)
       (w : Word) (mark : ℕ) (long : length w ≡ linePlaces) (low : mark < 4) (old line change : List ℕ) (old-is : old ≡ bytesAt out n)
@@ -241,16 +249,21 @@ module _ (rows columns : ℕ) (out marks lacks faulty : List ℕ) (room : Room r
                     either (inl x) = q x
                     either (inr x) = d x
 
-    -- the same with the buffers under other names
-    pub mended-as : (after afterMarks lacksMid lacksLast faultyMid faultyLast : List ℕ) → after ≡ putBytes out n line
-        → afterMarks ≡ set marks n mark
-        → lacksMid ≡ added lacks (n / columns) change → faultyMid ≡ set faulty (n / columns) (getD faulty (n / columns) 0 - 1)
-        → lacksLast ≡ added lacksMid (rows + n % columns) change
-        → faultyLast ≡ set faultyMid (rows + n % columns) (getD faultyMid (rows + n % columns) 0 - 1)
+    -- the same with the buffers, the row and the column under other names
+    pub mended-as : (after afterMarks lacksMid lacksLast faultyMid faultyLast : List ℕ) (r k : ℕ) → r ≡ n / columns → k ≡ n % columns
+        → after ≡ putBytes out n line → afterMarks ≡ set marks n mark
+        → lacksMid ≡ added lacks r change → faultyMid ≡ set faulty r (getD faulty r 0 - 1)
+        → lacksLast ≡ added lacksMid (rows + k) change → faultyLast ≡ set faultyMid (rows + k) (getD faultyMid (rows + k) 0 - 1)
         → Carried rows columns parity after afterMarks lacksLast faultyLast (set s n (record { line = w; mark = mark }))
-    mended-as after afterMarks lacksMid lacksLast faultyMid faultyLast e f g h i j =
+    mended-as after afterMarks lacksMid lacksLast faultyMid faultyLast =
+        named columns n
+        (λ r k. after ≡ putBytes out n line → afterMarks ≡ set marks n mark
+        → lacksMid ≡ added lacks r change → faultyMid ≡ set faulty r (getD faulty r 0 - 1)
+        → lacksLast ≡ added lacksMid (rows + k) change → faultyLast ≡ set faultyMid (rows + k) (getD faultyMid (rows + k) 0 - 1)
+        → Carried rows columns parity after afterMarks lacksLast faultyLast (set s n (record { line = w; mark = mark })))
+        (λ e f g h i j.
         subst (λ (x : List ℕ). Carried rows columns parity after afterMarks x faultyLast (set s n (record { line = w; mark = mark })))
         (sym (i ∙ ap (λ (x : List ℕ). added x (rows + n % columns) change) g))
         (subst (λ (x : List ℕ). Carried rows columns parity after afterMarks (added (added lacks (n / columns) change) (rows + n % columns) change) x (set s n (record { line = w; mark = mark })))
         (sym (j ∙ ap (λ (x : List ℕ). set x (rows + n % columns) (getD x (rows + n % columns) 0 - 1)) h))
-        (mended after afterMarks e f))
+        (mended after afterMarks e f)))

@@ -15,8 +15,6 @@ use groups::Places;
 use groups::tracked;
 use linecode::place;
 use rectangle::lines;
-use rectangle::lines::ColumnIndex;
-use rectangle::lines::RowIndex;
 
 // A faulty line is mended: the new line and its mark are written, and its row and its column learn of the change and have one faulty line
 // less.
@@ -42,12 +40,12 @@ fn mend(
     let change = place::xor_lines(lines::line_at(out, n), line);
     lines::put_line(out, n, line);
     marks[n] = mark;
-    let r = n / columns;
-    let c = n % columns;
-    tracked::add_to_row(lacks, RowIndex(r), change);
-    tracked::one_less_in_row(faulty, RowIndex(r));
-    tracked::add_to_column(lacks, rows, ColumnIndex(c), change);
-    tracked::one_less_in_column(faulty, rows, ColumnIndex(c));
+    let row = lines::row_of(columns, n);
+    let column = lines::column_of(columns, n);
+    tracked::add_to_row(lacks, row, change);
+    tracked::one_less_in_row(faulty, row);
+    tracked::add_to_column(lacks, rows, column, change);
+    tracked::one_less_in_column(faulty, rows, column);
 }
 
 // Each faulty line of the group in rising order tries each place in rising order: flip it, read the line alone. The first accepted

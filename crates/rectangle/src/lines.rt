@@ -1,8 +1,8 @@
 // Lines in a lent buffer. The functions of this module are public because the crates above go through them alone; each asks that
-// the line lies inside the buffer, which the entry points have tested.
+// the line lies inside the buffer, or that there are columns, which the entry points have tested.
 use linecode::place;
 ghost use mathlib.Core.Path.{_≡_};
-ghost use Prim.Native.Nat.{suc, _*_, _≤_};
+ghost use Prim.Native.Nat.{suc, _*_, _/_, _%_, _≤_, _<_};
 ghost use lib.ListN.{length};
 ghost use Rattle.linecode.specs.Places.{places, xorBytes};
 ghost use Rattle.line_table.specs.Table.{lineTable};
@@ -14,6 +14,22 @@ ghost use Rattle.rectangle.specs.Change.{addTo};
 pub struct RowIndex(pub usize);
 
 pub struct ColumnIndex(pub usize);
+
+// The row of line n: only here and in `column_of` does a line's number become a row's or a column's.
+pub fn row_of(columns: usize, n: usize) -> RowIndex
+    requires { ⌜ 0 < columns ⌝ }
+    ensures { λ r. ⌜ r .0 ≡ n / columns ⌝ }
+{
+    RowIndex(n / columns)
+}
+
+// The column of line n.
+pub fn column_of(columns: usize, n: usize) -> ColumnIndex
+    requires { ⌜ 0 < columns ⌝ }
+    ensures { λ r. ⌜ r .0 ≡ n % columns ⌝ }
+{
+    ColumnIndex(n % columns)
+}
 
 // Line n of a buffer.
 pub fn line_at(buffer: &[u8], n: usize) -> [u8; 70]

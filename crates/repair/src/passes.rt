@@ -29,8 +29,9 @@ pub fn visit_all(
     let groups = rows + columns;
     let mut k = 0;
     while k < groups {
-        if tracked::count(faulty, rows, groups::nth(rows, k)) != 0 {
-            let chosen = groups::choose(rows, columns, k);
+        let which = groups::nth(rows, k);
+        if tracked::count(faulty, rows, which) != 0 {
+            let chosen = groups::choose(rows, columns, which);
             visit::visit_group(table, out, marks, lacks, faulty, rows, columns, chosen);
         }
         k += 1;

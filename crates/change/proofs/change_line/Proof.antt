@@ -1,6 +1,6 @@
 -- `change::change_line` meets its contract: a refusal, or the line and its two parity lines written.
-use mathlib.Core.Path.{_≡_, sym, ap, _∙_}
-use Prim.Native.Nat.{ℕ, _/_, _%_}
+use mathlib.Core.Path.{_≡_, sym, ap, ap₂, _∙_}
+use Prim.Native.Nat.{ℕ}
 use borrow.Author.Needs.{needs}
 use Rattle.linecode.specs.Places.{places, lineOf}
 use Rattle.rectangle.specs.Refusals.{changeRefusal}
@@ -67,25 +67,25 @@ put-line-requires c κs =
     let p = pass (c .before .before .before .before .before .before .before) in
     line-room _ _ _ _ _ (p .sizes) _ (p .inside)
 
-div-r : tie.Need-div-r
-div-r c =
+row-of-requires : tie.Need-row-of-requires
+row-of-requires c κs =
     let p = pass (c .before .before .before .before .before .before .before .before .before .before) in
     some-columns _ _ _ _ _ (p .sizes) _ (p .inside)
 
 add-to-row-requires : tie.Need-add-to-row-requires
 add-to-row-requires c κs =
-    let p = pass (c .before .before .before .before .before .before .before .before .before .before .before) in
-    row-room _ _ _ _ _ (p .sizes) _ (p .inside)
+    let p = pass (c .before .before .before .before .before .before .before .before .before .before .before .before) in
+    row-room _ _ _ _ _ (p .sizes) _ (p .inside) _ (c .before .row-of .ensures)
 
-rem-c : tie.Need-rem-c
-rem-c c =
-    let p = pass (c .before .before .before .before .before .before .before .before .before .before .before .before .before .before) in
+column-of-requires : tie.Need-column-of-requires
+column-of-requires c κs =
+    let p = pass (c .before .before .before .before .before .before .before .before .before .before .before .before .before .before .before) in
     some-columns _ _ _ _ _ (p .sizes) _ (p .inside)
 
 add-to-column-requires : tie.Need-add-to-column-requires
 add-to-column-requires c κs =
-    let p = pass (c .before .before .before .before .before .before .before .before .before .before .before .before .before .before .before) in
-    column-room _ _ _ _ _ (p .sizes) _ (p .inside)
+    let p = pass (c .before .before .before .before .before .before .before .before .before .before .before .before .before .before .before .before .before) in
+    column-room _ _ _ _ _ (p .sizes) _ (p .inside) _ (c .before .column-of .ensures)
 
 same-length-4 : tie.Need-same-length-4
 same-length-4 c = search needs
@@ -121,8 +121,8 @@ both c =
 returns-2 : tie.Need-returns-2
 returns-2 c =
     let column = c .before .before in
-    let row = column .before .before .before .before in
-    let put = row .before .before .before .before in
+    let row = column .before .before .before .before .before in
+    let put = row .before .before .before .before .before in
     let summed = put .before .before in
     let written = summed .before in
     let tested = written .before .before .before .before .before in
@@ -131,8 +131,8 @@ returns-2 c =
     (none tested)
     (put-new (a .lines .now) (a .n) (a .payload .now) (pass tested .payloadBytes) (written .rewrite .result) _ (new written)
     (put .put-line .ensures))
-    (row .add-to-row .ensures ∙ ap (addTo (a .row-table .now) (a .n / a .columns)) (both summed))
-    (column .add-to-column .ensures ∙ ap (addTo (a .column-table .now) (a .n % a .columns)) (both summed))
+    (row .add-to-row .ensures ∙ ap₂ (addTo (a .row-table .now)) (row .before .before .row-of .ensures) (both summed))
+    (column .add-to-column .ensures ∙ ap₂ (addTo (a .column-table .now)) (column .before .before .column-of .ensures) (both summed))
 
 pub change-line-spec : {M : Type 1} → statement M
 change-line-spec =
@@ -148,9 +148,9 @@ change-line-spec =
     rewrite-requires
     xor-lines-requires
     put-line-requires
-    div-r
+    row-of-requires
     add-to-row-requires
-    rem-c
+    column-of-requires
     add-to-column-requires
     same-length-4
     same-length-5

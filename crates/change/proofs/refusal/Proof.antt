@@ -1,7 +1,7 @@
 -- `change::refusal` meets its contract: each way out is one of the tests.
-use mathlib.Core.Path.{_≡_, sym, ap, _∙_}
+use mathlib.Core.Path.{_≡_, sym, ap, ap₂, _∙_}
 use mathlib.Core.Bool.{_&&_}
-use Prim.Native.Nat.{_/_, _%_}
+use Prim.Native.Nat.{ℕ, _/_, _%_}
 use native.Mathlib.Omega.{arith}
 use borrow.Author.Needs.{needs}
 use borrow.Author.Tests.{eq-eqb, ne-eqb, lt-ltb, le-ltb, not-true, not-false}
@@ -60,46 +60,57 @@ left : (c : tie.Else3)
     ≡ changeRefusal (a .rows) (a .columns) (a .lines .now) (a .row-table .now) (a .column-table .now) (a .n) (a .payload .now)
 left c = rw (← next (c .before .before), eq-eqb _ 64 (c .before .if2 .left), lt-ltb _ _ (c .if3 .left))
 
-div-r : tie.Need-div-r
-div-r c = some-columns _ _ _ _ _ (fit (c .before .before)) _ (c .if3 .left)
+row-of-requires : tie.Need-row-of-requires
+row-of-requires c κs = some-columns _ _ _ _ _ (fit (c .before .before)) _ (c .if3 .left)
 
-rem-c : tie.Need-rem-c
-rem-c c = some-columns _ _ _ _ _ (fit (c .before .before)) _ (c .if3 .left)
+column-of-requires : tie.Need-column-of-requires
+column-of-requires c κs = some-columns _ _ _ _ _ (fit (c .before .before .before)) _ (c .before .if3 .left)
 
 parities-correct-requires : tie.Need-parities-correct-requires
 parities-correct-requires c κs =
-    let p = fit (c .before .before) in
-    (row-room _ _ _ _ _ p _ (c .if3 .left), column-room _ _ _ _ _ p _ (c .if3 .left))
+    let p = fit (c .before .before .before .before) in
+    let inside = c .before .before .if3 .left in
+    (row-room _ _ _ _ _ p _ inside _ (c .before .row-of .ensures), column-room _ _ _ _ _ p _ inside _ (c .column-of .ensures))
 
 alone-at-requires : tie.Need-alone-at-requires
-alone-at-requires c κs = line-room _ _ _ _ _ (fit (c .before .before .before)) _ (c .before .if3 .left)
+alone-at-requires c κs = line-room _ _ _ _ _ (fit (c .before .before .before .before .before)) _ (c .before .before .before .if3 .left)
+
+-- what is tested of the two parity lines, by the line's row and column
+tested : (c : tie.After-parities-correct)
+    → let a = c .before .before .before .before .before .before .before .before .before .before .before .args in
+    parityCorrect (rowGroup (a .columns) (a .row-table .now) (a .n / a .columns))
+    && parityCorrect (columnGroup (a .rows) (a .columns) (a .column-table .now) (a .n % a .columns))
+    ≡ c .parities-correct .result
+tested c =
+    let a = c .before .before .before .before .before .before .before .before .before .before .before .args in
+    sym (c .parities-correct .ensures (a .rows) (a .columns)
+    ∙ ap₂ (λ (i j : ℕ). parityCorrect (rowGroup (a .columns) (a .row-table .now) i) && parityCorrect (columnGroup (a .rows) (a .columns) (a .column-table .now) j))
+    (c .before .before .row-of .ensures) (c .before .column-of .ensures))
 
 returns-4 : tie.Need-returns-4
 returns-4 c =
     let parities = c .before .before in
-    let a = parities .before .before .before .before .before .before .before .before .before .args in
-    rw (← left (parities .before), sym (parities .parities-correct .ensures (a .rows) (a .columns)) ∙ not-true _ (c .if4 .taken))
+    rw (← left (parities .before .before .before), tested parities ∙ not-true _ (c .if4 .taken))
 
 -- past refusal 9 the definition tests the line
 last : (c : tie.Else4)
-    → let a = c .before .before .before .before .before .before .before .before .before .before .before .args in
+    → let a = c .before .before .before .before .before .before .before .before .before .before .before .before .before .args in
     unless (acceptedAt (a .lines .now) (a .n)) 10 0
     ≡ changeRefusal (a .rows) (a .columns) (a .lines .now) (a .row-table .now) (a .column-table .now) (a .n) (a .payload .now)
 last c =
     let parities = c .before .before in
-    let a = parities .before .before .before .before .before .before .before .before .before .args in
-    rw (← left (parities .before), sym (parities .parities-correct .ensures (a .rows) (a .columns)) ∙ not-false _ (c .if4 .left))
+    rw (← left (parities .before .before .before), tested parities ∙ not-false _ (c .if4 .left))
 
 returns-5 : tie.Need-returns-5
 returns-5 c =
-    let a = c .before .before .before .before .before .before .before .before .before .before .before .before .args in
+    let a = c .before .before .before .before .before .before .before .before .before .before .before .before .before .before .args in
     let read = c .before .before .alone-at in
     let mark = ap (λ (r : Reading). r .mark) (read .ensures) in
     rw (← last (c .before), faulty-alone (a .lines .now) (a .n) (read .result .mark) mark (c .if5 .taken))
 
 returns-6 : tie.Need-returns-6
 returns-6 c =
-    let a = c .before .before .before .before .before .before .before .before .before .before .before .before .args in
+    let a = c .before .before .before .before .before .before .before .before .before .before .before .before .before .before .args in
     let read = c .before .before .alone-at in
     let mark = ap (λ (r : Reading). r .mark) (read .ensures) in
     rw (← last (c .before), accepted-alone (a .lines .now) (a .n) (read .result .mark) mark (c .if5 .left))
@@ -113,8 +124,8 @@ refusal-spec =
     returns-2
     mul-if3
     returns-3
-    div-r
-    rem-c
+    row-of-requires
+    column-of-requires
     parities-correct-requires
     alone-at-requires
     returns-4

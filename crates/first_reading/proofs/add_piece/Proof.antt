@@ -8,11 +8,11 @@ use Rattle.first_reading.proofs.add_piece.Statement.{statement}
 use Rattle.first_reading.proofs.add_piece.Tie as tie
 
 abbrev Inv-loop : tie.InvT-loop
-Inv-loop out marks lacks₀ faulty₀ rows n c count difference₀ hurt₀ i₀ lacks faulty difference hurt i =
-    Adding rows out marks lacks₀ faulty₀ n c count difference₀ hurt₀ lacks faulty difference hurt i
+Inv-loop out marks lacks₀ faulty₀ rows n column count difference₀ hurt₀ i₀ lacks faulty difference hurt i =
+    Adding rows out marks lacks₀ faulty₀ n (column .0) count difference₀ hurt₀ lacks faulty difference hurt i
 
 abbrev μ-loop : tie.MeasureT-loop
-μ-loop out marks lacks₀ faulty₀ rows n c count difference₀ hurt₀ i₀ lacks faulty difference hurt i = count - i
+μ-loop out marks lacks₀ faulty₀ rows n column count difference₀ hurt₀ i₀ lacks faulty difference hurt i = count - i
 
 loop-holds : tie.Need-loop-holds Inv-loop μ-loop
 loop-holds c = adding-start _ _ _ _ _ _ _ _ _ _ (c .before .before .before .before .before .pre)
@@ -21,32 +21,32 @@ loop-holds c = adding-start _ _ _ _ _ _ _ _ _ _ (c .before .before .before .befo
 place : (c : tie.In-loop Inv-loop μ-loop)
     → let a = c .before .before .before .before .before .before .before .args in
     let here = c .before .loop in
-    Place (a .rows) (a .out .now) (a .marks .now) (here .faulty) (here .hurt) (a .n + here .i) (a .rows + (a .c + here .i))
+    Place (a .rows) (a .out .now) (a .marks .now) (here .faulty) (here .hurt) (a .n + here .i) (a .rows + (a .column .0 + here .i))
 place c = adding-place _ _ _ _ _ _ _ _ _ _ _ _ _ _ _ (c .before .loop .inv) (c .loop-test .taken) (c .before .before .before .before .before .before .before .pre)
 
 add-m : tie.Need-add-m Inv-loop μ-loop
 add-m c = omega (arith, place c .small)
 
-add-k : tie.Need-add-k Inv-loop μ-loop
-add-k c = omega (arith, place c .group)
+add-t18 : tie.Need-add-t18 Inv-loop μ-loop
+add-t18 c = omega (arith, place (c .before) .group)
 
 line-at-requires : tie.Need-line-at-requires Inv-loop μ-loop
-line-at-requires c κs = place c .line
+line-at-requires c κs = place (c .before) .line
 
 xor-bytes-requires : tie.Need-xor-bytes-requires Inv-loop μ-loop
 xor-bytes-requires c κs = tt
 
 add-to-column-requires : tie.Need-add-to-column-requires Inv-loop μ-loop
-add-to-column-requires c κs = (place (c .before .before .before) .group, c .before .before .before .before .loop .inv .lackBytes)
+add-to-column-requires c κs = (place (c .before .before .before .before) .group, c .before .before .before .before .before .loop .inv .lackBytes)
 
 shared-slice-read-if1 : tie.Need-shared-slice-read-if1 Inv-loop μ-loop
-shared-slice-read-if1 c = place (c .before .before .before .before .before .before .before) .mark
+shared-slice-read-if1 c = place (c .before .before .before .before .before .before .before .before) .mark
 
 add-hurt : tie.Need-add-hurt Inv-loop μ-loop
-add-hurt c = omega (arith, place (c .before .before .before .before .before .before .before .before) .ownFew)
+add-hurt c = omega (arith, place (c .before .before .before .before .before .before .before .before .before) .ownFew)
 
 one-more-in-column-requires : tie.Need-one-more-in-column-requires Inv-loop μ-loop
-one-more-in-column-requires c κs = (place (c .before .before .before .before .before .before .before .before .before) .group, c .before .before .before .before .before .before .before .before .before .before .loop .inv .counts, place (c .before .before .before .before .before .before .before .before .before) .columnFew)
+one-more-in-column-requires c κs = (place (c .before .before .before .before .before .before .before .before .before .before) .group, c .before .before .before .before .before .before .before .before .before .before .before .loop .inv .counts, place (c .before .before .before .before .before .before .before .before .before .before) .columnFew)
 
 add-i : tie.Need-add-i Inv-loop μ-loop
 add-i c = omega arith
@@ -56,7 +56,7 @@ loop-less c = omega arith
 
 loop-again : tie.Need-loop-again Inv-loop μ-loop
 loop-again c =
-    let turn = c .before .before .before .before .before .before .before .before in
+    let turn = c .before .before .before .before .before .before .before .before .before in
     ⊎-elim
     (λ w.
     adding-faulty _ _ _ _ _ _ _ _ _ _ _ _ _ _ _ (turn .before .loop .inv) (turn .loop-test .taken) _ _ _ (c .before .before .before .before .before .before .before .line-at .ensures) (c .before .before .before .before .add-to-column .kept .0) (c .before .before .before .before .add-to-column .ensures) (c .before .before .before .before .before .before .xor-bytes .ensures) _ _ (w .0 .taken) (w .5 ∙ w .2 .ensures) (w .6))
@@ -81,7 +81,7 @@ add-piece-spec =
     μ-loop
     loop-holds
     add-m
-    add-k
+    add-t18
     line-at-requires
     xor-bytes-requires
     add-to-column-requires

@@ -8,11 +8,11 @@ use Rattle.first_reading.proofs.read_row.Statement.{statement}
 use Rattle.first_reading.proofs.read_row.Tie as tie
 
 abbrev Inv-loop : tie.InvT-loop
-Inv-loop table found out₀ marks₀ lacks₀ faulty₀ rows columns r first difference₀ hurt₀ c₀ out marks lacks faulty difference hurt c =
-    Sweeping rows columns found out₀ marks₀ lacks₀ faulty₀ r first out marks lacks faulty difference hurt c
+Inv-loop table found out₀ marks₀ lacks₀ faulty₀ rows columns row first difference₀ hurt₀ c₀ out marks lacks faulty difference hurt c =
+    Sweeping rows columns found out₀ marks₀ lacks₀ faulty₀ (row .0) first out marks lacks faulty difference hurt c
 
 abbrev μ-loop : tie.MeasureT-loop
-μ-loop table found out₀ marks₀ lacks₀ faulty₀ rows columns r first difference₀ hurt₀ c₀ out marks lacks faulty difference hurt c = columns - c
+μ-loop table found out₀ marks₀ lacks₀ faulty₀ rows columns row first difference₀ hurt₀ c₀ out marks lacks faulty difference hurt c = columns - c
 
 difference-requires : tie.Need-difference-requires Inv-loop μ-loop
 difference-requires c κs =

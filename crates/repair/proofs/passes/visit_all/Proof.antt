@@ -3,8 +3,8 @@ use mathlib.Core.Path.{_≡_, refl, sym, ap, subst, _∙_}
 use mathlib.Core.Logic.{⊎-elim}
 use Prim.Native.Nat.{ℕ, _+_, _-_, _<_}
 use lib.ListN.{getD}
-use Rattle.groups.specs.Lent.{numberOf}
-use Rattle.groups.proofs.Numbers.{which-number, renumber}
+use Rattle.groups.specs.Lent.{numberOf, Within}
+use Rattle.groups.proofs.Numbers.{which-number, which-within}
 use Rattle.groups.proofs.Rooms.{same-room}
 use Rattle.repair.proofs.Passing.{Passing, passing-start, passing-some, passing-next, passing-idle, passing-end, repass}
 use borrow.Author.Needs.{needs}
@@ -29,19 +29,22 @@ nth-requires : tie.Need-nth-requires Inv-loop μ-loop
 nth-requires c κs = search needs
 
 -- the group's number is the loop's
-number : (c : tie.After-nth Inv-loop μ-loop) → numberOf (c .before .before .before .before .before .before .before .before .args .rows) (c .nth .result) ≡ c .before .before .before .loop .k
-number c = ap (numberOf (c .before .before .before .before .before .before .before .before .args .rows)) (c .nth .ensures) ∙ which-number _ _
+number : (c : tie.After-nth Inv-loop μ-loop) → numberOf (c .before .before .before .before .before .before .before .args .rows) (c .nth .result) ≡ c .before .before .loop .k
+number c = ap (numberOf (c .before .before .before .before .before .before .before .args .rows)) (c .nth .ensures) ∙ which-number _ _
 
 count-requires : tie.Need-count-requires Inv-loop μ-loop
 count-requires c κs =
     let rect = c .before .before .before .before .before .before .before .before .pre .1 .room .rect in
     let few : c .before .before .before .loop .k < 1024 = omega (arith, c .before .before .before .loop .inv .0, c .before .before .loop-test .taken, rect .rowsHigh, rect .columnsHigh) in
-    (subst (λ (k : ℕ). k < 1024) (sym (number c)) few, c .before .before .before .loop .inv .1 .room .counts)
+    (subst (λ (k : ℕ). k < 1024) (sym (number (c .before))) few, c .before .before .before .loop .inv .1 .room .counts)
 
 choose-requires : tie.Need-choose-requires Inv-loop μ-loop
 choose-requires c κs =
-    let rect = c .before .before .before .before .before .before .before .before .before .before .pre .1 .room .rect in
-    (rect .rowsLow, rect .rowsHigh, rect .columnsLow, rect .columnsHigh, omega (arith, c .before .before .before .before .before .loop .inv .0, c .before .before .before .before .loop-test .taken))
+    let start = c .before .before .before .before .before .before .before .before .before .before in
+    let rect = start .pre .1 .room .rect in
+    let here = c .before .before .before .before .before .loop in
+    let within = which-within (start .args .rows) (here .k) (start .args .columns) (omega (arith, here .inv .0, c .before .before .before .before .loop-test .taken)) in
+    (rect .rowsLow, rect .rowsHigh, rect .columnsLow, rect .columnsHigh, subst (Within (start .args .rows) (start .args .columns)) (sym (c .before .before .before .nth .ensures)) within)
 
 visit-group-requires : tie.Need-visit-group-requires Inv-loop μ-loop
 visit-group-requires c κs =
@@ -51,7 +54,7 @@ visit-group-requires c κs =
       pre .0,
       (
         record { room = here .room; held = passing-some _ _ _ _ _ _ _ _ _ _ _ here (pre .1 .held) },
-        renumber _ _ _ _ _ _ _ (chosen .0) (chosen .1),
+        chosen .1,
       ),
     )
 
@@ -68,13 +71,13 @@ loop-again c =
       ⊎-elim
           (λ w.
           repass _ _ _ _ _ _ _ _ _ _ _ _ _ _ _ (w .15) (w .16) (w .17) (w .18)
-          (passing-next _ _ _ _ _ _ _ _ _ _ (here .k) (here .inv .1) _ _ _ _ _ (omega (arith, here .inv .0, c .before .before .before .before .loop-test .taken)) (w .1 .ensures .0)
+          (passing-next _ _ _ _ _ _ _ _ _ _ (here .k) (here .inv .1) _ _ _ _ _ (omega (arith, here .inv .0, c .before .before .before .before .loop-test .taken)) (ap (numberOf (c .before .before .before .before .before .before .before .before .before .before .args .rows)) (w .1 .ensures .0) ∙ number (c .before .before .before))
           (same-room _ _ _ _ _ _ _ _ _ _ (here .inv .1 .room) (w .6 .kept .1 .0) (w .6 .kept .1 .1 .0) (w .6 .kept .1 .1 .1 .0) (w .6 .kept .1 .1 .1 .1 .0))
           (w .6 .ensures)))
           (λ w.
           repass _ _ _ _ _ _ _ _ _ _ _ _ _ _ _ (w .1) (w .2) (w .3) (w .4)
           (passing-idle _ _ _ _ _ _ _ _ _ _ (here .k) (here .inv .1) (omega (arith, here .inv .0, c .before .before .before .before .loop-test .taken))
-          (sym (c .before .count .ensures ∙ ap (λ (k : ℕ). getD (here .faulty) k 0) (number (c .before .before))) ∙ w .0 .left)))
+          (sym (c .before .count .ensures ∙ ap (λ (k : ℕ). getD (here .faulty) k 0) (number (c .before .before .before))) ∙ w .0 .left)))
           (c .if1 .came),
     )
 
