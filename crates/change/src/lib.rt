@@ -1,5 +1,5 @@
 // Changing one line together with its two parity lines. Document 01, "The rectangle". It reads three lines and
-// writes one, so it goes by the tables that are compiled in; the rectangle below, which reads every line, lends a table.
+// writes one, so it goes by the tables that are compiled in; `tables` and `repair`, which read every line, lend a table.
 use linecode::alone::Reading;
 use linecode::place;
 use rectangle::lines::ColumnIndex;
