@@ -12,7 +12,7 @@ use Rattle.linecode.specs.Places.{dataBytes, lineBytes, loaded}
 use Rattle.linecode.specs.Entry.{written, reading}
 use Rattle.linecode.specs.declared.alone.Reading.{Reading}
 use Rattle.linecode.proofs.Loading.{copy-step, copied-over}
-use Rattle.linecode.proofs.LineLayout.{layout}
+use Rattle.promises.proofs.LineLayout.{layout}
 use Rattle.capi.specs.Single.{Written, Answered, ifFaulty, writeRefusal, readRefusal, writeLine, readLine}
 
 -- ---- storing a line

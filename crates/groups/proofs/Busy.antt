@@ -12,7 +12,7 @@ use Rattle.gf2.specs.Word.{Word, digits, number, weight}
 use Rattle.gf2.proofs.Digits.{number-small}
 use Rattle.linecode.specs.Places.{bitsOf, places}
 use Rattle.linecode.proofs.Bytes.{Bytes, byte-at, bitsOf-append}
-use Rattle.linecode.proofs.LineLayout.{layout}
+use Rattle.promises.proofs.LineLayout.{layout}
 use Rattle.scheme.specs.Visit.{setPlaces}
 use Rattle.scheme.proofs.Words.{length-setPlaces}
 

@@ -13,7 +13,7 @@ use lib.Seq.{drop-cons, take-suc-set}
 use Rattle.gf2.specs.Word.{Word}
 use Rattle.gf2.specs.Check.{bit}
 use Rattle.linecode.specs.Places.{places}
-use Rattle.linecode.proofs.LineLayout.{layout}
+use Rattle.promises.proofs.LineLayout.{layout}
 use Rattle.scheme.specs.Visit.{setPlaces}
 use Rattle.groups.specs.Lent.{Listed, allZero}
 use Rattle.groups.proofs.Added.{zero-no-places}

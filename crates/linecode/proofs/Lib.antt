@@ -12,7 +12,3 @@ pub mod Answers
 pub mod CrcRegister
 pub mod Codeword
 pub mod ReadAlone
-pub mod Lines
-pub mod CorrectTest
-pub mod Promises
-pub mod LineLayout

@@ -1,6 +1,6 @@
--- One line of 70 bytes, in document 01's order: read Places, then Code, then Reading, then Entry, then Promises.
+-- One line of 70 bytes, in document 01's order: read Places, then Code, then Reading, then Entry. The promises stand above, in the
+-- crate `promises`.
 pub mod Places
 pub mod Code
 pub mod Reading
 pub mod Entry
-pub mod Promises

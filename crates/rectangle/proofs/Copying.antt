@@ -8,7 +8,7 @@ use native.Mathlib.Omega.{arith}
 use lib.ListN.{length, take, drop, getD, set, length-drop, drop-of-length-le}
 use lib.Seq.{paste, paste-zero, paste-suc, length-paste, take-all, length-take-le}
 use Rattle.linecode.specs.Places.{lineBytes, loaded}
-use Rattle.linecode.proofs.LineLayout.{layout}
+use Rattle.promises.proofs.LineLayout.{layout}
 use Rattle.rectangle.specs.Store.{bytesAt, putBytes}
 
 -- what is loaded from line n of a buffer

@@ -11,10 +11,10 @@ use Rattle.linecode.specs.Places.{linePlaces, dataBytes, places, lineOf, loaded
 use Rattle.linecode.specs.Code.{dataOf, codeword, Correct, isCorrect}
 use Rattle.linecode.specs.Reading.{readAlone}
 use Rattle.linecode.specs.Entry.{written, reading}
-use Rattle.linecode.specs.Promises as Line
+use Rattle.promises.specs.Promises as Line
 use Rattle.linecode.specs.declared.alone.Reading.{Reading}
-use Rattle.linecode.proofs.Promises.{promises}
-use Rattle.linecode.proofs.LineLayout.{layout}
+use Rattle.promises.proofs.Promises.{promises}
+use Rattle.promises.proofs.LineLayout.{layout}
 use Rattle.linecode.proofs.Loading.{written-loaded}
 use Rattle.scheme.specs.Layer.{readLine, CorrectLine, parityAddress, ReadsAs, Promises}
 use Rattle.scheme.specs.Visit.{Group}

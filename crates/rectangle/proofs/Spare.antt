@@ -6,7 +6,7 @@ use lib.ListN.{length, replicate}
 use Rattle.gf2.specs.Word.{Word, _⊕_, zeros, flip}
 use Rattle.gf2.proofs.Weight.{length-flip}
 use Rattle.linecode.specs.Places.{linePlaces, lineBytes, places, lineOf, xorBytes}
-use Rattle.linecode.proofs.LineLayout.{layout}
+use Rattle.promises.proofs.LineLayout.{layout}
 
 pub places-is : linePlaces ≡ 553
 places-is = layout .placeCount

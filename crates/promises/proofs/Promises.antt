@@ -18,23 +18,23 @@ use Rattle.gf2.proofs.Hamming.{columnSum-flip}
 use Rattle.gf2.proofs.Same.{same-refl, same-equal}
 use Rattle.gf2.proofs.Crc.{divisible-crc}
 use Rattle.gf2.proofs.Weight.{length-flip, flip-flip, distance-flip, one-flip, OneFlip, take-flip, flip-past}
 use Rattle.linecode.specs.Places.{dataPlaces, protectedPlaces, linePlaces, bitsOf, places, lineOf}
 use Rattle.linecode.specs.Code.{protected, accepted, withHamming, codeword, Correct, positions, columns, syndrome, answerTo}
 use Rattle.linecode.specs.Reading.{Read, acceptedAs, faulty, afterFlip, corrected, firstLook, readAlone}
 use Rattle.linecode.specs.Entry.{written, reading}
-use Rattle.linecode.specs.Promises.{ReadsAs, Promises}
+use Rattle.promises.specs.Promises.{ReadsAs, Promises}
 use Rattle.linecode.specs.declared.alone.Reading.{Reading}
 use Rattle.linecode.specs.declared.hamming.Answer.{Answer}
 use Rattle.linecode.specs.declared.hamming.Answer.the-variants.{None, Hamming, Protected}
 use Rattle.linecode.proofs.Bytes.{length-bitsOf}
 use Rattle.linecode.proofs.Line.{protected-is, data-is, places-is, places-lineOf}
 use Rattle.register.proofs.Slicing.{length-generator}
 use Rattle.linecode.proofs.Codeword.{length-codeword, length-protected}
 use Rattle.linecode.proofs.Syndrome.{none-zero, none-above, none-exactly, position-named, power-named, column-position}
 use Rattle.linecode.proofs.Answers.{numbered, hamming-power, place-named}
-use Rattle.linecode.proofs.CorrectTest.{tests}
+use Rattle.promises.proofs.CorrectTest.{tests}
 use Rattle.linecode.proofs.ReadAlone.{read-clean, read-flip, in-bytes}
-use Rattle.linecode.proofs.Lines.{correct-length, codeword-correct, correct-rewritten, correct-accepted, correct-syndrome, near, correct-apart, accepted-correct, correct-xor}
+use Rattle.promises.proofs.Lines.{correct-length, codeword-correct, correct-rewritten, correct-accepted, correct-syndrome, near, correct-apart, accepted-correct, correct-xor}
 
 holds : (b : Bool) → b ≡ true → T b
 holds true e = tt

@@ -8,15 +8,15 @@ use lib.ListN.{length, take, getD, replicate}
 use lib.Seq.{take-at}
 use Rattle.gf2.specs.Word.{Word, zeros}
 use Rattle.gf2.specs.Check.{bit}
 use Rattle.linecode.specs.Places.{protectedPlaces, linePlaces, lineBytes, bitsOf, loaded, places, lineOf}
 use Rattle.linecode.specs.Code.{codeword}
 use Rattle.linecode.specs.Entry.{written}
-use Rattle.linecode.specs.Promises.{Layout}
+use Rattle.promises.specs.Promises.{Layout}
 use Rattle.linecode.proofs.Bytes.{length-bitsOf}
 use Rattle.linecode.proofs.Line.{data-is, places-is, bytes-is, length-places, length-lineOf, places-lineOf, lineOf-xor}
 use Rattle.linecode.proofs.Line.{length-front, places-line, crcEnd, hammingEnd, protected-place, protected-bit, hamming-bit}
 use Rattle.linecode.proofs.Loading.{data-loaded, loaded-whole}
 use Rattle.linecode.proofs.Codeword.{length-codeword}
 
 back : (w : Word) → length w ≡ linePlaces → places (lineOf w) ≡ w
 back w e = places-lineOf w (omega (arith, e, places-is)) (omega (arith, e, places-is)) e

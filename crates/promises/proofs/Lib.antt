@@ -1,0 +1,5 @@
+-- The promises are kept.
+pub mod Lines
+pub mod CorrectTest
+pub mod Promises
+pub mod LineLayout

@@ -1,0 +1,2 @@
+-- What the line code promises to the layers above.
+pub mod Promises
