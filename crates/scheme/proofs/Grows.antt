@@ -1,4 +1,4 @@
--- Growing: each line stays as it is, with its mark, or was faulty and is no longer. Every step of repair grows the store.
+-- Growing: each line stays as it is, with its mark, or was faulty and is mended. Every step of repair grows the store.
 use mathlib.Core.Path.{_≡_, refl, ap, _∙_}
 use mathlib.Core.Bool.{Bool, true, false, cond}
 use mathlib.Core.List.{[], _∷_}
@@ -11,10 +11,10 @@ use Rattle.scheme.specs.Layer.{Cell}
 use Rattle.scheme.specs.Visit.{State, cellAt, isFaulty, select}
 use Rattle.scheme.specs.Repair.{faultyCount}
 
--- a cell stays, or was faulty and is no longer
+-- a cell stays, or was faulty and is no longer, with the mark of a mended one
 pub data Kept (c d : Cell) : Type 0 where
   same : d ≡ c → Kept c d
-  mended : isFaulty c ≡ true → isFaulty d ≡ false → Kept c d
+  mended : isFaulty c ≡ true → isFaulty d ≡ false → 2 ≤ d .mark → Kept c d
 
 pub data Grows : State → State → Type 0 where
   nil : Grows [] []
@@ -22,8 +22,8 @@ pub data Grows : State → State → Type 0 where
 
 pub kept-trans : {c d e : Cell} → Kept c d → Kept d e → Kept c e
 kept-trans {c = c} (same p) k = rw (← p) k
-kept-trans (mended p q) (same r) = mended p (ap isFaulty r ∙ q)
-kept-trans (mended p q) (mended r t) = mended p t
+kept-trans (mended p q h) (same r) = mended p (ap isFaulty r ∙ q) (rw r h)
+kept-trans (mended p q h) (mended r t i) = mended p t i
 
 pub grows-refl : (s : State) → Grows s s
 grows-refl [] = nil
@@ -56,7 +56,7 @@ grows-count (cons {c} {d} {s} {t} (same p) g) = go (isFaulty c) refl (grows-coun
         → (faultyCount (d ∷ t) ≤ faultyCount (c ∷ s)) × (faultyCount (d ∷ t) ≡ faultyCount (c ∷ s) → d ∷ t ≡ c ∷ s)
     go true q r = rw (p, q) (omega (arith, r .0), λ e. ap (λ (u : State). c ∷ u) (r .1 (suc-inj e)))
     go false q r = rw (p, q) (r .0, λ e. ap (λ (u : State). c ∷ u) (r .1 e))
-grows-count (cons {c} {d} {s} {t} (mended p q) g) =
+grows-count (cons {c} {d} {s} {t} (mended p q h) g) =
     rw (p, q) (le-step (grows-count g .0), λ e. let z : ⊥ = omega (arith, grows-count g .0) in absurd z)
 
 -- counting no faulty line is finding none
@@ -77,9 +77,14 @@ none-found (c ∷ s) h = rw (h 0) (none-found s (λ n. h (suc n)))
 -- an accepted cell stays
 pub kept-accepted : {c d : Cell} → Kept c d → (c .mark ≡ 4 → ⊥) → d ≡ c
 kept-accepted (same p) h = p
-kept-accepted {c = c} (mended p q) h = absurd (h (eqb-true (c .mark) 4 p))
+kept-accepted {c = c} (mended p q i) h = absurd (h (eqb-true (c .mark) 4 p))
 
 -- a cell that stays faulty stays
 pub kept-faulty : {c d : Cell} → Kept c d → d .mark ≡ 4 → d ≡ c
 kept-faulty (same p) h = p
-kept-faulty {d = d} (mended p q) h = absurd (eqb-false (d .mark) 4 q h)
+kept-faulty {d = d} (mended p q i) h = absurd (eqb-false (d .mark) 4 q h)
+
+-- a cell that was faulty is mended or stays
+pub kept-mended : {c d : Cell} → Kept c d → c .mark ≡ 4 → 2 ≤ d .mark
+kept-mended (same p) h = rw (p, h) (omega arith)
+kept-mended (mended p q i) h = i

@@ -1,5 +1,5 @@
--- Laws of the SuDoku steps, over any list of groups: accepted lines stay (Stays), the passes (Passes), demand 3 (ExactReturn,
--- NotAlike), no line mended into another (NoneWrong), and what these rest on.
+-- Laws of the SuDoku steps, over any list of groups: accepted lines stay (Stays), accepted marks decide nothing (Readings), the passes
+-- (Passes), demand 3 (ExactReturn, NotAlike), no line mended into another (NoneWrong), and what these rest on.
 pub mod Case
 pub mod Lists
 pub mod Words
@@ -9,6 +9,7 @@ pub mod Grows
 pub mod Steps
 pub mod Passes
 pub mod Stays
+pub mod Readings
 pub mod Width
 pub mod Marking
 pub mod Faithful

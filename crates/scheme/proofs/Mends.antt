@@ -22,7 +22,7 @@ grows-accepted {s} {t} g n e = go (grows-at g n)
   where
     go : Kept (cellAt s n) (cellAt t n) → isFaulty (cellAt t n) ≡ false
     go (same p) = ap isFaulty p ∙ e
-    go (mended p q) = q
+    go (mended p q h) = q
 
 -- a faulty line is in the store, so what is put in its place stands there
 put-accepted : (s : State) (n : ℕ) (d : Cell) → isFaulty (cellAt s n) ≡ true → isFaulty d ≡ false

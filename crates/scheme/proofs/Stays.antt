@@ -1,4 +1,5 @@
--- "An accepted line is never altered later", and a line that stays faulty stays as found: by a visit, a pass and repair.
+-- "An accepted line is never altered later", a line that stays faulty stays as found, and one that was faulty is mended or stays:
+-- by a visit, a pass and repair.
 use mathlib.Core.Path.{_≡_, refl, sym, ap, _∙_}
 use mathlib.Core.List.{List, [], _∷_}
 use Prim.Native.Nat.{ℕ, zero, suc, _+_, _<_}
@@ -10,12 +11,17 @@ use Rattle.scheme.specs.Visit.{Group, State, cellAt, lineAt}
 use Rattle.scheme.specs.Repair.{readAll, repair}
 use Rattle.scheme.specs.Stays.{Stays, NeverAltered}
 use Rattle.scheme.specs.Demand3.{wordAt}
-use Rattle.scheme.proofs.Grows.{Grows, grows-at, grows-length, kept-accepted, kept-faulty}
+use Rattle.scheme.proofs.Grows.{Grows, grows-at, grows-length, kept-accepted, kept-faulty, kept-mended}
 use Rattle.scheme.proofs.Steps.{visit-grows, pass-grows}
 use Rattle.scheme.proofs.Passes.{passes-grow}
 
 stays : {s t : State} → Grows s t → Stays s t
-stays g = record { accepted = λ n h. kept-accepted (grows-at g n) h; faulty = λ n h. kept-faulty (grows-at g n) h }
+stays g =
+    record {
+      accepted = λ n h. kept-accepted (grows-at g n) h;
+      faulty = λ n h. kept-faulty (grows-at g n) h;
+      mended = λ n h. kept-mended (grows-at g n) h;
+    }
 
 pub neverAltered : NeverAltered
 neverAltered =

@@ -4,6 +4,7 @@ use mathlib.Core.Logic.{inl}
 use mathlib.Core.Bool.{Bool, true, false, cond}
 use mathlib.Core.List.{List, [], _∷_}
 use Prim.Native.Nat.{ℕ}
+use native.Mathlib.Omega.{arith}
 use Rattle.gf2.specs.Word.{flip}
 use Rattle.scheme.specs.Layer.{Cell, Reading}
 use Rattle.scheme.specs.Visit.{Group, State, cellAt, isFaulty, faultyOf, rebuild, rebuildOnly, settle, mismatch, tryPlaces, tryLines, triable, trial, visit}
@@ -14,7 +15,7 @@ use Rattle.scheme.proofs.Grows.{Kept, same, mended, Grows, grows-refl, 
 
 rebuild-grows : (g : Group) (s : State) (n : ℕ) → isFaulty (cellAt s n) ≡ true → Grows s (rebuild g s n)
 unfolding rebuild
-rebuild-grows g s n h = grows-set s n _ (mended h refl)
+rebuild-grows g s n h = grows-set s n _ (mended h refl (omega arith))
 
 pub settle-grows : (g : Group) (s : State) → Grows s (settle g s)
 unfolding settle
@@ -34,7 +35,7 @@ module _ (read : Reading) where
       go : (b : Bool) → Kept c (tryPlaces read n c ps)
           → Kept c (cond b (tryPlaces read n c ps) (record { line = read n (flip p (c .line)) .line; mark = 2 }))
       go true k = k
-      go false k = mended h refl
+      go false k = mended h refl (omega arith)
 
   pub tryLines-grows : (ps : List ℕ) (s : State) (ns : List ℕ) → Grows s (tryLines read ps s ns)
   tryLines-grows ps s [] = grows-refl s
