@@ -84,6 +84,24 @@ module _ (w : Word) (whole : length w ≡ linePlaces) where
       ∙ same-comm (storedCrc w) (crc generator (dataOf w))
       ∙ sym accepted-crc
 
+  -- its Hamming bits are those of its protected word exactly where they are the sum of positions
+  hamming-same : same (storedHamming w) (hamming (protected w)) ≡ eqb (columnSum positions (protected w)) (number (storedHamming w))
+  hamming-same =
+      let s = columnSum positions (protected w) in
+      ap (same (storedHamming w)) (hamming-digits (protected w))
+      ∙ same-comm (storedHamming w) (digits 10 s)
+      ∙ sym (same-number (digits 10 s) (storedHamming w) (length-digits 10 s ∙ sym length-storedHamming))
+      ∙ ap (λ (n : ℕ). eqb n (number (storedHamming w))) (number-small 10 s (position-sum-lt (protected w)))
+
+  -- so that writing them afresh leaves the line as it is
+  pub rewritten-same : same w (withHamming (protected w)) ≡ eqb (columnSum positions (protected w)) (number (storedHamming w))
+  unfolding withHamming
+  rewritten-same =
+      ap (λ (x : Word). same x (protected w ++ hamming (protected w))) line-parts
+      ∙ same-append (protected w) (protected w) (storedHamming w) (hamming (protected w)) refl
+      ∙ ap (λ (t : Bool). t && same (storedHamming w) (hamming (protected w))) (same-refl (protected w))
+      ∙ hamming-same
+
   -- a line is correct exactly where it is accepted and its Hamming bits are the sum of positions
   pub isCorrect-parts : isCorrect w ≡ accepted w && eqb (columnSum positions (protected w)) (number (storedHamming w))
   unfolding isCorrect codeword withHamming withCrc
@@ -108,12 +126,8 @@ module _ (w : Word) (whole : length w ≡ linePlaces) where
       rest : (t : Bool) → accepted w ≡ t
           → accepted w && same (storedHamming w) (hamming (withCrc d)) ≡ accepted w && eqb s (number (storedHamming w))
       rest true q =
-          ap (λ (p : Word). accepted w && same (storedHamming w) p)
-          (ap hamming (sym (accepted-written (subst T (sym q) tt))) ∙ hamming-digits (protected w))
-          ∙ ap (λ (t : Bool). accepted w && t)
-          (same-comm (storedHamming w) (digits 10 s)
-          ∙ sym (same-number (digits 10 s) (storedHamming w) (length-digits 10 s ∙ sym length-storedHamming))
-          ∙ ap (λ (n : ℕ). eqb n (number (storedHamming w))) (number-small 10 s (position-sum-lt (protected w))))
+          ap (λ (p : Word). accepted w && same (storedHamming w) (hamming p)) (sym (accepted-written (subst T (sym q) tt)))
+          ∙ ap (λ (t : Bool). accepted w && t) hamming-same
       rest false q =
           ap (λ (t : Bool). t && same (storedHamming w) (hamming (withCrc d))) q
           ∙ sym (ap (λ (t : Bool). t && eqb s (number (storedHamming w))) q)

@@ -1,32 +1,35 @@
 -- Reading alone, case by case, and in bytes.
 use mathlib.Core.Path.{_≡_, sym, ap, _∙_}
-use mathlib.Core.Bool.{Bool, true, false}
+use mathlib.Core.Bool.{Bool, true, false, cond}
 use mathlib.Core.List.{List, [], _∷_}
 use types.Run.{OneOf, miss}
 use denote.Enum.Declared.{tagOf}
 use Prim.Native.Nat.{ℕ}
 use native.Mathlib.Omega.{arith}
+use lib.Dec.{eqb}
 use lib.ListN.{length}
-use Rattle.gf2.specs.Word.{Word, flip}
+use Rattle.gf2.specs.Word.{Word, number, flip}
+use Rattle.gf2.specs.Check.{columnSum}
 use Rattle.gf2.proofs.Weight.{length-flip}
 use Rattle.linecode.specs.Places.{linePlaces, places, lineOf}
-use Rattle.linecode.specs.Code.{accepted, syndrome, answerTo}
-use Rattle.linecode.specs.Reading.{Read, acceptedAs, faulty, afterFlip, corrected, firstLook, readAlone}
+use Rattle.linecode.specs.Code.{protected, accepted, storedHamming, positions, syndrome, answerTo}
+use Rattle.linecode.specs.Reading.{Read, acceptedAs, faulty, afterFlip, corrected, firstLook, markOf, readAlone}
 use Rattle.linecode.specs.Entry.{reading}
 use Rattle.linecode.specs.declared.alone.Reading.{Reading}
 use Rattle.linecode.specs.declared.hamming.Answer.{Answer}
 use Rattle.linecode.specs.declared.hamming.Answer.the-variants.{None, Hamming, Protected}
 use Rattle.linecode.proofs.hamming.Answer.{the-type}
 use Rattle.linecode.proofs.Line.{places-is, places-lineOf, length-places}
+use Rattle.linecode.proofs.Codeword.{rewritten-same}
 
 module _ (w : Word) where
-  pub read-clean : accepted w ≡ true → readAlone w ≡ acceptedAs 0 w
+  pub read-clean : accepted w ≡ true → readAlone w ≡ acceptedAs (markOf w) w
   unfolding readAlone
-  read-clean e = ap (λ (b : Bool). firstLook b w) e
+  read-clean e = ap (λ (b : Bool). firstLook (markOf w) b w) e
 
-  read-answer : (a : Answer) → accepted w ≡ false → answerTo (syndrome w) ≡ a → readAlone w ≡ corrected a w
+  pub read-answer : (a : Answer) → accepted w ≡ false → answerTo (syndrome w) ≡ a → readAlone w ≡ corrected a w
   unfolding readAlone
-  read-answer a e f = ap (λ (b : Bool). firstLook b w) e ∙ ap (λ (x : Answer). corrected x w) f
+  read-answer a e f = ap (λ (b : Bool). firstLook (markOf w) b w) e ∙ ap (λ (x : Answer). corrected x w) f
 
   pub read-flip : (i : ℕ) (t : Bool) → accepted w ≡ false → answerTo (syndrome w) ≡ Protected i → accepted (flip i w) ≡ t
       → readAlone w ≡ afterFlip t (flip i w) w
@@ -38,6 +41,12 @@ module _ (w : Word) where
   unnamed None k e f = read-answer None e f
   unnamed (Hamming i) k e f = read-answer (Hamming i) e f
   unnamed (Protected i) k e f = absurd (miss (0 ∷ 1 ∷ []) 2 tt k)
+
+-- the mark at the first look, by the sum of positions and the Hamming bits
+pub mark-when : (w : Word) → length w ≡ linePlaces → (b : Bool) → eqb (columnSum positions (protected w)) (number (storedHamming w)) ≡ b
+    → cond b 0 1 ≡ markOf w
+unfolding markOf
+mark-when w whole b e = ap (λ (t : Bool). cond t 0 1) (sym (rewritten-same w whole ∙ e))
 
 -- a reading's bytes and mark
 pub in-bytes : (l : List ℕ) (r : Read) → readAlone (places l) ≡ r

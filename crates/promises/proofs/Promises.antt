@@ -1,6 +1,6 @@
 -- The promises of the line code are kept.
 use mathlib.Core.Path.{_≡_, refl, sym, ap, ap₂, _∙_, subst}
-use mathlib.Core.Bool.{Bool, true, false, true≢false}
+use mathlib.Core.Bool.{Bool, true, false, true≢false, cond}
 use mathlib.Core.Logic.{_⊎_, inl, inr, _↔_}
 use mathlib.Core.List.{List, [], _∷_, _++_}
 use Prim.Native.Nat.{ℕ, zero, suc, _+_, _*_, _≤_, _<_}
@@ -17,10 +17,10 @@ use Rattle.gf2.proofs.Xor.{xor-comm}
 use Rattle.gf2.proofs.Hamming.{columnSum-flip}
 use Rattle.gf2.proofs.Same.{same-refl, same-equal}
 use Rattle.gf2.proofs.Crc.{divisible-crc}
-use Rattle.gf2.proofs.Weight.{length-flip, flip-flip, distance-flip, one-flip, OneFlip, take-flip, flip-past}
+use Rattle.gf2.proofs.Weight.{distance-self, distance-zero, length-flip, flip-flip, distance-flip, one-flip, OneFlip, take-flip, flip-past}
 use Rattle.linecode.specs.Places.{dataPlaces, protectedPlaces, linePlaces, bitsOf, places, lineOf}
 use Rattle.linecode.specs.Code.{protected, accepted, withHamming, codeword, Correct, positions, columns, syndrome, answerTo}
-use Rattle.linecode.specs.Reading.{Read, acceptedAs, faulty, afterFlip, corrected, firstLook, readAlone}
+use Rattle.linecode.specs.Reading.{Read, acceptedAs, faulty, afterFlip, corrected, firstLook, markOf, readAlone, readBefore}
 use Rattle.linecode.specs.Entry.{written, reading}
 use Rattle.promises.specs.Promises.{ReadsAs, Promises}
 use Rattle.linecode.specs.declared.alone.Reading.{Reading}
@@ -33,12 +33,21 @@ use Rattle.linecode.proofs.Codeword.{length-codeword, length-protected}
 use Rattle.linecode.proofs.Syndrome.{none-zero, none-above, none-exactly, position-named, power-named, column-position}
 use Rattle.linecode.proofs.Answers.{numbered, hamming-power, place-named}
 use Rattle.promises.proofs.CorrectTest.{tests}
-use Rattle.linecode.proofs.ReadAlone.{read-clean, read-flip, in-bytes}
+use Rattle.linecode.proofs.ReadAlone.{read-clean, read-answer, read-flip, in-bytes}
 use Rattle.promises.proofs.Lines.{correct-length, codeword-correct, correct-rewritten, correct-accepted, correct-syndrome, near, correct-apart, accepted-correct, correct-xor}
 
 holds : (b : Bool) → b ≡ true → T b
 holds true e = tt
 holds false e = absurd (true≢false (sym e))
+
+-- ---- the mark at the first look
+marked : (w : Word) → markOf w ≤ 1
+unfolding markOf
+marked w = go (same w (withHamming (protected w)))
+  where
+    go : (b : Bool) → cond b 0 1 ≤ 1
+    go true = omega arith
+    go false = omega arith
 
 -- ---- what a reading is, by the ways out of it
 module _ (found : Word) where
@@ -64,12 +73,12 @@ module _ (found : Word) where
       second i false e n s = inr (read-flip found i false e n s)
 
       answered : (a : Answer) → accepted found ≡ false → answerTo (syndrome found) ≡ a → Read-cases
-      answered None e n = inr (ap (λ (b : Bool). firstLook b found) e ∙ ap (λ (a : Answer). corrected a found) n)
-      answered (Hamming k) e n = inr (ap (λ (b : Bool). firstLook b found) e ∙ ap (λ (a : Answer). corrected a found) n)
+      answered None e n = inr (read-answer found None e n)
+      answered (Hamming k) e n = inr (read-answer found (Hamming k) e n)
       answered (Protected i) e n = second i (accepted (flip i found)) e n refl
 
       first : (b : Bool) → accepted found ≡ b → Read-cases
-      first true e = inl (found, 0, read-clean found e, omega arith, holds (accepted found) e, refl, λ w. omega arith)
+      first true e = inl (found, markOf found, read-clean found e, marked found, holds (accepted found) e, refl, λ w. omega arith)
       first false e = answered (answerTo (syndrome found)) e refl
 
 reads-as : (w found x : Word) (m : ℕ) → readAlone found ≡ acceptedAs m x → m ≤ 1 → withHamming (protected x) ≡ w
@@ -163,9 +172,89 @@ corrects w found c e d = go (accepted found) refl
 
     go : (b : Bool) → accepted found ≡ b → ReadsAs w (readAlone found)
     go true f =
-        reads-as w found found 0 (read-clean found f) (omega arith) (near w found c e (omega arith) (holds (accepted found) f))
+        reads-as w found found (markOf found) (read-clean found f) (marked found) (near w found c e (omega arith) (holds (accepted found) f))
     go false f =
         missed f (one-flip found w (e ∙ sym (correct-length w c)) (subst (λ (n : ℕ). n ≤ 1) (ap weight (xor-comm w found)) d))
+
+-- ---- marks 0 and 1
+-- a correct line reads as itself with mark 0
+read-correct : (w : Word) → Correct w → readAlone w ≡ record { word = w; mark = 0 }
+unfolding markOf
+read-correct w c =
+    read-clean w (correct-accepted w c)
+    ∙ ap (λ (x : Word). record { word = x; mark = cond (same w x) 0 1 }) (correct-rewritten w c)
+    ∙ ap (λ (b : Bool). record { word = w; mark = cond b 0 1 }) (same-refl w)
+
+-- what is read with mark 0 is a correct line
+clean-only : (found : Word) → length found ≡ linePlaces → readAlone found .mark ≡ 0 → Correct found
+unfolding readAlone markOf
+clean-only found e m = first (accepted found) refl m
+  where
+    untouched : (b : Bool) → same found (withHamming (protected found)) ≡ b → T (accepted found)
+        → _≡_ {A = ℕ} (cond b 0 1) 0 → Correct found
+    untouched true s t m =
+        subst Correct (sym (same-equal found (withHamming (protected found)) (holds _ s))) (accepted-correct found e t)
+    untouched false s t m = let z : ⊥ = omega arith in absurd z
+
+    second : (b : Bool) (x : Word) → afterFlip b x found .mark ≡ 0 → Correct found
+    second true x m = let z : ⊥ = omega arith in absurd z
+    second false x m = let z : ⊥ = omega arith in absurd z
+
+    answered : (a : Answer) → corrected a found .mark ≡ 0 → Correct found
+    answered None m = let z : ⊥ = omega arith in absurd z
+    answered (Hamming k) m = let z : ⊥ = omega arith in absurd z
+    answered (Protected i) m = second (accepted (flip i found)) (flip i found) m
+
+    first : (b : Bool) → accepted found ≡ b → firstLook (markOf found) b found .mark ≡ 0 → Correct found
+    first true a m = untouched _ refl (holds (accepted found) a) m
+    first false a m = answered (answerTo (syndrome found)) m
+
+clean : (found : Word) → length found ≡ linePlaces → (readAlone found .mark ≡ 0) ↔ Correct found
+clean found e = (clean-only found e, λ c. ap (λ (r : Read). r .mark) (read-correct found c))
+
+rewritten : (found : Word) → length found ≡ linePlaces
+    → (readAlone found .mark ≡ 1) ↔ ((readAlone found .mark ≡ 4 → ⊥) × (1 ≤ distance found (readAlone found .word)))
+rewritten found e = (λ m. (λ four. omega arith, differs m (sound found e)), λ p. back (p .0) (p .1) (marks found))
+  where
+    as-found : Correct found → (readAlone found .mark ≡ 0) × (readAlone found .word ≡ found)
+    as-found c = (ap (λ (r : Read). r .mark) (read-correct found c), ap (λ (r : Read). r .word) (read-correct found c))
+
+    -- read as found, it would be correct, and so have mark 0
+    differs : readAlone found .mark ≡ 1 → (readAlone found .mark ≡ 4) ⊎ ((readAlone found .mark ≤ 1) × Correct (readAlone found .word))
+        → 1 ≤ distance found (readAlone found .word)
+    differs m (inl four) = let z : ⊥ = omega arith in absurd z
+    differs m (inr p) = go (decLt 0 (distance found (readAlone found .word)))
+      where
+        go : Dec (0 < distance found (readAlone found .word)) → 1 ≤ distance found (readAlone found .word)
+        go (yes h) = omega arith
+        go (no h) =
+            let q = distance-zero found (readAlone found .word) (e ∙ sym (correct-length _ (p .1))) (omega arith) in
+            let z : ⊥ = omega (arith, as-found (subst Correct (sym q) (p .1)) .0) in
+            absurd z
+
+    back : (readAlone found .mark ≡ 4 → ⊥) → 1 ≤ distance found (readAlone found .word)
+        → (readAlone found .mark ≤ 1) ⊎ (readAlone found .mark ≡ 4) → readAlone found .mark ≡ 1
+    back h d (inr four) = absurd (h four)
+    back h d (inl small) = go (decLt 0 (readAlone found .mark))
+      where
+        go : Dec (0 < readAlone found .mark) → readAlone found .mark ≡ 1
+        go (yes k) = omega arith
+        go (no k) =
+            let same = as-found (clean-only found e (omega arith)) .1 in
+            let z : ⊥ = omega (arith, ap (distance found) same ∙ distance-self found) in
+            absurd z
+
+before : (found : Word) → (readBefore found .word ≡ readAlone found .word)
+    × ((readBefore found .mark ≡ readAlone found .mark) ⊎ ((readBefore found .mark ≡ 0) × (readAlone found .mark ≡ 1)))
+unfolding readBefore readAlone markOf
+before found = go (accepted found) (same found (withHamming (protected found)))
+  where
+    go : (b s : Bool) → let then = firstLook 0 b found in
+        let now = firstLook (cond s 0 1) b found in
+        (then .word ≡ now .word) × ((then .mark ≡ now .mark) ⊎ ((then .mark ≡ 0) × (now .mark ≡ 1)))
+    go true true = (refl, inl refl)
+    go true false = (refl, inr (refl, refl))
+    go false s = (refl, inl refl)
 
 -- ---- writing and reading in bytes
 writes : (payload : List ℕ) → length payload ≡ 64
@@ -173,8 +262,7 @@ writes : (payload : List ℕ) → length payload ≡ 64
 unfolding written
 writes payload e = (
   subst Correct (sym back) correct,
-  sym (in-bytes (lineOf word) (acceptedAs 0 word) (ap readAlone back ∙ read-clean word (correct-accepted word correct)))
-      ∙ ap (λ (w : Word). record { line = lineOf w; mark = 0 }) (correct-rewritten word correct),
+  sym (in-bytes (lineOf word) (record { word = word; mark = 0 }) (ap readAlone back ∙ read-correct word correct)),
 )
   where
     full : length (bitsOf payload) ≡ dataPlaces
@@ -224,6 +312,9 @@ promises =
       kept = kept;
       sound = sound;
       marks = marks;
+      clean = clean;
+      rewritten = rewritten;
+      before = before;
       tests = tests;
       writes = writes;
       spare = spare;

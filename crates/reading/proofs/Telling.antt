@@ -4,7 +4,7 @@ use mathlib.Core.Bool.{Bool, true, false, _&&_}
 use mathlib.Core.List.{List, [], _∷_}
 use Prim.Native.Nat.{ℕ, _+_, _-_, _*_, _/_, _%_, _^_, _≤_, _<_}
 use native.Mathlib.Omega.{arith}
-use borrow.Author.Tests.{ne-eqb}
+use borrow.Author.Tests.{eq-eqb, ne-eqb}
 use lib.Dec.{eqb}
 use lib.ListN.{length, getD, set}
 use lib.Seq.{sets, set-getD}
@@ -15,10 +15,11 @@ use Rattle.linecode.specs.Places.{linePlaces, places}
 use Rattle.linecode.specs.Code.{positions, protected, accepted, storedHamming, isCorrect}
 use Rattle.linecode.specs.Entry.{reading}
 use Rattle.linecode.proofs.Bytes.{Bytes, byte-at}
+use Rattle.linecode.proofs.Line.{length-places}
 use Rattle.linecode.proofs.Positions.{position-sum-lt}
 use Rattle.linecode.proofs.Codeword.{length-storedHamming, isCorrect-parts}
-use Rattle.linecode.proofs.Stores.{stored-sum}
-use Rattle.linecode.proofs.ReadAlone.{read-clean, in-bytes}
+use Rattle.linecode.proofs.Stores.{stored-sum, storedHamming-number}
+use Rattle.linecode.proofs.ReadAlone.{read-clean, mark-when, in-bytes}
 use Rattle.sweep.specs.Sums.{bothSums}
 use Rattle.sweep.proofs.BothSums.{sums-when}
 
@@ -91,12 +92,16 @@ untouched l s whole bytes e h q =
     let low : s % 256 ≡ getD l 68 0 = omega (arith, byte-at l 68 bytes) in
     let high : s / 256 ≡ getD l 69 0 = omega (arith, byte-at l 68 bytes) in
     let kept : getD l 67 0 % 128 ≡ getD l 67 0 = omega arith in
+    let held = storedHamming-number l whole bytes in
+    let right : columnSum positions (protected (places l)) ≡ number (storedHamming (places l)) =
+    omega (arith, b .1, position-sum-lt (protected (places l))) in
     sym (in-bytes l _ (read-clean (places l) (b .0)))
-    ∙ ap (λ (x : List ℕ). record { line = x; mark = 0 })
+    ∙ ap₂ (λ (x : List ℕ) (m : ℕ). record { line = x; mark = m })
     (sym (stored-sum l whole bytes s (b .1))
     ∙ ap (λ (x : ℕ). sets l 67 (x ∷ s % 256 ∷ s / 256 ∷ [])) kept
     ∙ ap₂ (λ (y z : ℕ). sets l 67 (getD l 67 0 ∷ y ∷ z ∷ [])) low high
     ∙ same)
+    (sym (mark-when (places l) (length-places l whole) true (eq-eqb _ _ right)))
   where
     same : sets l 67 (getD l 67 0 ∷ getD l 68 0 ∷ getD l 69 0 ∷ []) ≡ l
     same =

@@ -1,5 +1,6 @@
 // Reading a line alone where many are read: both sums of a line come from the lent table (document 000, III-C). Public for the crates
 // above, which bind the table once.
+use linecode::alone;
 use linecode::alone::Reading;
 use linecode::hamming;
 use linecode::hamming::Answer;
@@ -48,9 +49,10 @@ pub fn read_summed(table: &[u64; 4096], line: [u8; 70], sums: u32) -> Reading
     ensures { λ r. ⌜ r ≡ reading line ⌝ }
 {
     if sums < 65536 {
+        let sum = sums as u16;
         return Reading {
-            line: hamming::with_bits(line, sums as u16),
-            mark: 0,
+            line: hamming::with_bits(line, sum),
+            mark: alone::mark_of(line, sum),
         };
     }
     read_hurt(table, line, (sums - 65536) as u16)
@@ -64,7 +66,7 @@ pub fn read(table: &[u64; 4096], line: [u8; 70]) -> Reading
     read_summed(table, line, sums_of(table, line))
 }
 
-// Whether a line whose sums are known reads alone as it stands, with mark 0: its word divisible, its Hamming bits right, its spare bits 0.
+// Whether a line whose sums are known is correct as found and has its spare bits 0: it then reads alone as it stands, with mark 0.
 // Nearly every line does, and then it is copied whole: bytes stored over the copy would make the processor wait.
 pub fn is_untouched(line: [u8; 70], sums: u32) -> bool
     requires { ⌜ sums ≡ bothSums (places line) ⌝ }

@@ -1,4 +1,4 @@
--- What a line reads as: clean, or by the corrector and the second look at the CRC.
+-- What a line reads as: accepted as it stands, or by the corrector and the second look at the CRC.
 use mathlib.Core.Path.{_≡_, refl, sym, ap, ap₂, _∙_, subst}
 use mathlib.Core.Bool.{Bool, true, false}
 use mathlib.Core.List.{List, [], _∷_, _++_}
@@ -14,7 +14,7 @@ use Rattle.gf2.proofs.Digits.{digits-number}
 use Rattle.register.proofs.Slicing.{length-generator}
 use Rattle.linecode.specs.Places.{bitsOf, places, lineOf}
 use Rattle.linecode.specs.Code.{protected, dataOf, storedCrc, storedHamming, accepted, positions, withHamming, codeword, syndrome, answerTo}
-use Rattle.linecode.specs.Reading.{afterFlip, corrected, firstLook, readAlone}
+use Rattle.linecode.specs.Reading.{afterFlip, corrected, firstLook, markOf, readAlone}
 use Rattle.linecode.specs.Entry.{reading}
 use Rattle.linecode.specs.declared.alone.Reading.{Reading}
 use Rattle.linecode.specs.declared.hamming.Answer.{Answer}
@@ -26,12 +26,12 @@ use Rattle.linecode.proofs.Syndrome.{syndrome-parts}
 use Rattle.linecode.proofs.ReadAlone.{read-clean, in-bytes}
 use Rattle.single.specs.Corrector.{corrector}
 
--- a clean line reads as the codeword of its data
-pub clean-reading : (l : List ℕ) → length l ≡ 70 → accepted (places l) ≡ true
-    → _≡_ {A = Reading} (record { line = lineOf (codeword (dataOf (places l))); mark = 0 }) (reading l)
+-- an accepted line reads as the codeword of its data
+pub accepted-reading : (l : List ℕ) → length l ≡ 70 → accepted (places l) ≡ true
+    → _≡_ {A = Reading} (record { line = lineOf (codeword (dataOf (places l))); mark = markOf (places l) }) (reading l)
 unfolding codeword
-clean-reading l e a =
-    ap (λ (p : Word). record { line = lineOf (withHamming p); mark = 0 })
+accepted-reading l e a =
+    ap (λ (p : Word). record { line = lineOf (withHamming p); mark = markOf (places l) })
     (sym (accepted-written (places l) (length-places l e) (subst T (sym a) tt)))
     ∙ in-bytes l _ (read-clean (places l) a)
 
@@ -46,7 +46,7 @@ pub second-look : (w turned : Word) (s : ℕ) (t : Bool) → accepted w ≡ fals
     → accepted turned ≡ t → readAlone w ≡ afterFlip t turned w
 unfolding readAlone
 second-look w turned s t e f g h =
-    ap (λ (b : Bool). firstLook b w) e
+    ap (λ (b : Bool). firstLook (markOf w) b w) e
     ∙ ap (λ (n : ℕ). corrected (answerTo n) w) (sym f)
     ∙ go (answerTo s)
     ∙ ap (λ (x : Word). afterFlip (accepted x) x w) (sym g)
@@ -66,7 +66,7 @@ module _ (l : List ℕ) (whole : length l ≡ 70) (stored : ℕ) (e : stored ≡
       ∙ digits-number (storedCrc (places l))
 
   -- the data and the CRC that a line holds are its protected places
-  protected-sum : columnSum positions (bitsOf (take 64 l) ++ digits 32 stored) ≡ columnSum positions (protected (places l))
+  pub protected-sum : columnSum positions (bitsOf (take 64 l) ++ digits 32 stored) ≡ columnSum positions (protected (places l))
   protected-sum =
       let d = dataOf (places l) in
       let full = length-places l whole in

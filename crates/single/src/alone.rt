@@ -50,8 +50,8 @@ fn corrected(line: [u8; 70], syndrome: u16) -> [u8; 70]
     place::flip_place(line, i)
 }
 
-// A line read alone: the CRC compared, and where it differs the corrector, then the CRC compared once more. The sum of positions serves a
-// clean line as its Hamming bits, a hurt one for its syndrome; it stands before the test, where LLVM reads the line without a copy.
+// A line read alone: the CRC compared, and where it differs the corrector, then the CRC compared once more. The sum of positions serves an
+// accepted line as its Hamming bits, a hurt one for its syndrome; it stands before the test, where LLVM reads the line without a copy.
 pub fn read_line(line: [u8; 70]) -> Reading
     ensures { λ r. ⌜ r ≡ reading line ⌝ }
 {
@@ -61,7 +61,7 @@ pub fn read_line(line: [u8; 70]) -> Reading
     if worked == stored {
         return Reading {
             line: with_checks(line, worked, sum),
-            mark: 0,
+            mark: linecode::alone::mark_of(line, sum),
         };
     }
     let turned = corrected(line, sum ^ hamming::stored(line));

@@ -1,5 +1,5 @@
 -- `reading::read_summed` meets its contract: an accepted line is read here, any other as a hurt one.
-use mathlib.Core.Path.{ap, _∙_}
+use mathlib.Core.Path.{ap₂, _∙_}
 use mathlib.Core.List.{List}
 use Prim.Native.Nat.{ℕ}
 use native.Mathlib.Omega.{arith}
@@ -10,20 +10,22 @@ use Rattle.linecode.proofs.ReadAlone.{read-clean, in-bytes}
 use Rattle.reading.proofs.Telling.{below, above}
 use Rattle.reading.proofs.read_summed.Statement.{statement}
 use Rattle.reading.proofs.read_summed.Tie as tie
-use Rattle.linecode.proofs.hamming.with_bits.Reads as with-bits-reads
-use Rattle.reading.proofs.read_hurt.Reads as read-hurt-reads
 
-cast-with-bits : tie.Need-cast-with-bits
-cast-with-bits c = omega arith
+cast-sum : tie.Need-cast-sum
+cast-sum c = omega arith
 
 with-bits-requires : tie.Need-with-bits-requires
 with-bits-requires c κs = below _ _ (c .before .pre .1) (c .if1 .taken) .1
 
+mark-of-requires : tie.Need-mark-of-requires
+mark-of-requires c κs = below _ _ (c .before .before .pre .1) (c .before .if1 .taken) .1
+
 returns : tie.Need-returns
 returns c =
-    let start = c .before .before in
-    ap (λ (x : List ℕ). record { line = x; mark = 0 }) (c .with-bits .ensures)
-    ∙ in-bytes (start .args .line) _ (read-clean _ (below _ _ (start .pre .1) (c .before .if1 .taken) .0))
+    let read = c .before in
+    let start = read .before .before in
+    ap₂ (λ (x : List ℕ) (m : ℕ). record { line = x; mark = m }) (read .with-bits .ensures) (c .mark-of .ensures)
+    ∙ in-bytes (start .args .line) _ (read-clean _ (below _ _ (start .pre .1) (read .before .if1 .taken) .0))
 
 cast-read-hurt : tie.Need-cast-read-hurt
 cast-read-hurt c =
@@ -40,8 +42,9 @@ pub read-summed-spec : {M : Type 1} → statement M
 read-summed-spec =
     tie.close
     (tie.spec
-    cast-with-bits
+    cast-sum
     with-bits-requires
+    mark-of-requires
     returns
     cast-read-hurt
     read-hurt-requires

@@ -1,7 +1,7 @@
 -- `single::alone::read_line` meets its contract: each way out is a case of reading alone.
 use borrow.Author.Needs.{needs}
 use borrow.Author.Tests.{eq-eqb, ne-eqb}
-use mathlib.Core.Path.{_≡_, sym, ap, _∙_}
+use mathlib.Core.Path.{_≡_, sym, ap, ap₂, _∙_}
 use mathlib.Core.Bool.{Bool, true, false}
 use mathlib.Core.List.{List, _++_}
 use Prim.Native.Nat.{ℕ}
@@ -15,7 +15,7 @@ use Rattle.linecode.specs.Reading.{acceptedAs, faulty, afterFlip, readAlone}
 use Rattle.linecode.proofs.Bytes.{array-length}
 use Rattle.linecode.proofs.Codeword.{crc-agrees}
 use Rattle.linecode.proofs.ReadAlone.{in-bytes}
-use Rattle.single.proofs.Looks.{clean-reading, held-syndrome, second-look}
+use Rattle.single.proofs.Looks.{accepted-reading, protected-sum, held-syndrome, second-look}
 use Rattle.single.proofs.alone.read_line.Statement.{statement}
 use Rattle.single.proofs.alone.read_line.Tie as tie
 
@@ -45,13 +45,22 @@ with-checks-requires c κs =
           ∙ ap (λ (n : ℕ). columnSum positions (bitsOf (take 64 (worked .before .args .line)) ++ digits 32 n)) (sym (c .if1 .taken)),
     )
 
+mark-of-requires : tie.Need-mark-of-requires
+mark-of-requires c κs =
+    let summed = c .before .before in
+    let held = summed .before in
+    let start = held .before .before in
+    let l = start .args .line in
+    summed .sum-with .ensures ∙ protected-sum l (array-length 70 l _ (start .good .0)) (held .stored .result) (held .stored .ensures)
+
 returns : tie.Need-returns
 returns c =
-    let summed = c .before .before in
+    let written = c .before in
+    let summed = written .before .before in
     let start = summed .before .before .before in
     let l = start .args .line in
-    ap (λ (x : List ℕ). record { line = x; mark = 0 }) (c .with-checks .ensures)
-    ∙ clean-reading l (array-length 70 l _ (start .good .0)) (sym (agreed summed) ∙ eq-eqb _ _ (c .before .if1 .taken))
+    ap₂ (λ (x : List ℕ) (m : ℕ). record { line = x; mark = m }) (written .with-checks .ensures) (c .mark-of .ensures)
+    ∙ accepted-reading l (array-length 70 l _ (start .good .0)) (sym (agreed summed) ∙ eq-eqb _ _ (written .before .if1 .taken))
 
 stored-requires-2 : tie.Need-stored-requires-2
 stored-requires-2 c κs = search needs
@@ -106,6 +115,7 @@ read-line-spec =
     stored-requires
     sum-with-requires
     with-checks-requires
+    mark-of-requires
     returns
     stored-requires-2
     corrected-requires
