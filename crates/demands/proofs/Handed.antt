@@ -54,13 +54,13 @@ module _ (s : State) (n : ℕ) (inside : n < length s) where
       ∙ ap (λ (c : Cell). c .mark) (in-range s n _ _ inside)
 
 module _ (r : Rectangle) where
-  gs : List Group
+  unfoldable pub gs : List Group
   gs = groups (r .rows) (r .columns) (r .rowTable) (r .columnTable)
 
-  found : List Word
+  unfoldable pub found : List Word
   found = linesIn (count r) (r .lines)
 
-  end : State
+  unfoldable pub end : State
   end = stepsOn r .cells
 
   first-count : faultyCount (readAll (readLine lineLayer) 0 found) ≡ faultyAlone r
@@ -76,15 +76,15 @@ module _ (r : Rectangle) where
       }
 
   module _ (n : ℕ) (h : n < count r) where
-    within : n < length found
+    pub within : n < length found
     unfolding found
     within = omega (arith, length-linesIn (count r) (r .lines))
 
-    within-end : n < length end
+    pub within-end : n < length end
     unfolding end gs found repaired
     within-end = omega (arith, within, repair-length (readLine lineLayer) gs found)
 
-    accepted-stays : acceptedAt (r .lines) n ≡ true → cellAt end n ≡ aloneAt (r .lines) n
+    pub accepted-stays : acceptedAt (r .lines) n ≡ true → cellAt end n ≡ aloneAt (r .lines) n
     unfolding end gs found repaired acceptedAt aloneAt
     accepted-stays a =
         repair-stays (readLine lineLayer) gs found .accepted n
@@ -116,7 +116,7 @@ acceptedNeverAltered r out marks o n h a = given-as-read r n h out marks o a
 -- the layer gives back a faulty line as found, if it has all places: refusal 5 saw to that
 module _ (promises : Promises lineLayer) (r : Rectangle) (out marks : List ℕ)
     (over : handsOver (repairOf r out marks .answer) ≡ true) where
-  line-bytes : length (r .lines) ≡ count r * lineBytes
+  pub line-bytes : length (r .lines) ≡ count r * lineBytes
   unfolding repairRefusal
   line-bytes =
       let two = passed (sidesFit (r .rows) (r .columns)) 2 _ (λ z. omega arith) (not-refused r out marks over) in

@@ -1,6 +1,7 @@
 -- What is refused, and what is handed over.
 pub mod Refused
 pub mod Handed
+pub mod Marks
 -- The demands: read Kept last.
 pub mod Parity
 pub mod ParityLines

@@ -28,15 +28,15 @@ answer-left gs s e z = go (agrees gs s) (rw (eq-eqb (faultyCount s) 0 z) at e)
     go false f = omega arith
 
 module _ (r : Rectangle) (out marks : List ℕ) where
-  refusal : ℕ
+  unfoldable pub refusal : ℕ
   refusal = repairRefusal (r .rows) (r .columns) (r .lines) (r .rowTable) (r .columnTable) out marks
 
-  runs : refusal ≡ 0
+  pub runs : refusal ≡ 0
       → repairOf r out marks ≡ handedOver (groups (r .rows) (r .columns) (r .rowTable) (r .columnTable)) (stepsOn r)
   unfolding repairOf refusal
   runs = repair-runs (r .rows) (r .columns) (r .lines) (r .rowTable) (r .columnTable) out marks _ refl
 
-  refused : (refusal ≡ 0 → ⊥) → repairOf r out marks ≡ record { answer = refusal; passes = 0; lines = out; marks = marks }
+  pub refused : (refusal ≡ 0 → ⊥) → repairOf r out marks ≡ record { answer = refusal; passes = 0; lines = out; marks = marks }
   unfolding repairOf refusal
   refused = repair-refused (r .rows) (r .columns) (r .lines) (r .rowTable) (r .columnTable) out marks _ refl
 

@@ -1,10 +1,11 @@
 -- The line code as the layer that repair sees. No other file above it opens reading, writing or the test of a correct line: each law
 -- here goes from what the functions below give, in bytes, to line n, or to a group's parity line.
 use mathlib.Core.Path.{_≡_, refl, sym, ap, _∙_, subst}
-use mathlib.Core.Logic.{_⊎_, inl, inr}
+use mathlib.Core.Logic.{_⊎_, inl, inr, ⊎-elim}
 use mathlib.Core.Bool.{true}
 use mathlib.Core.List.{List}
 use Prim.Native.Nat.{ℕ, suc-le-suc}
+use native.Mathlib.Omega.{arith}
 use lib.ListN.{length}
 use Rattle.gf2.specs.Word.{Word}
 use Rattle.linecode.specs.Places.{linePlaces, dataBytes, places, lineOf, loaded}
@@ -18,7 +19,9 @@ use Rattle.promises.proofs.LineLayout.{layout}
 use Rattle.linecode.proofs.Loading.{written-loaded}
 use Rattle.scheme.specs.Layer.{readLine, CorrectLine, parityAddress, ReadsAs, Promises}
 use Rattle.scheme.specs.Visit.{Group}
-use Rattle.rectangle.specs.Store.{readUnder, writeUnder, CorrectUnder, isCorrectUnder, lineLayer, bytesAt, placesAt, aloneAt, inBytes}
+use Rattle.scheme.specs.Marks.{MarksTell}
+use Rattle.scheme.specs.Readings.{SameButMark}
+use Rattle.rectangle.specs.Store.{readUnder, readUnderBefore, writeUnder, CorrectUnder, isCorrectUnder, lineLayer, bytesAt, placesAt, aloneAt, inBytes}
 use Rattle.rectangle.specs.Refusals.{parityCorrect}
 use Rattle.rectangle.specs.Change.{newLine}
 
@@ -45,6 +48,20 @@ kept =
         → ReadsAs w (readUnder a found) ⊎ (readAlone found .mark ≡ 4)
     detected a w found (inl r) = inl (reads-as a w found r)
     detected a w found (inr q) = inr q
+
+-- ---- what its marks tell
+pub marks-tell : MarksTell lineLayer
+unfolding readUnder CorrectUnder
+marks-tell address found e = record { clean = promises .clean found e; rewritten = promises .rewritten found e }
+
+-- before request Q-1 it read alike, but for the mark of an accepted line
+pub as-before : (address : ℕ) (found : Word) → SameButMark (readUnderBefore address found) (readUnder address found)
+unfolding readUnder readUnderBefore
+as-before address found =
+    record {
+      line = promises .before found .0;
+      mark = ⊎-elim inl (λ p. inr (omega (arith, p .0), omega (arith, p .1))) (promises .before found .1);
+    }
 
 -- ---- reading: bytes that are read as line n
 pub read-as : (n : ℕ) (line : List ℕ) → reading line ≡ inBytes (readLine lineLayer n (places line))

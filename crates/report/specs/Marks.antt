@@ -10,7 +10,7 @@ use Rattle.report.specs.declared.marks.Counts.{Counts}
 unfoldable pub countOf : ℕ → List ℕ → ℕ
 countOf mark marks = length (select (λ m. eqb m mark) marks)
 
--- 0 accepted with the protected word untouched, 1 accepted after a flip, 2 mended by trial, 3 rebuilt, 4 faulty
+-- 0 correct as found, 1 accepted and rewritten somewhere, 2 mended by trial, 3 rebuilt, 4 faulty
 unfoldable pub countsOf : List ℕ → Counts
 countsOf marks =
     record {

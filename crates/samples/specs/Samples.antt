@@ -1,4 +1,4 @@
--- Document 01, "Sample damage": the starred samples in one table, each row a claim that the definitions decide; and a table of other cases.
+-- Document 01, "Sample damage": the starred samples in one table, place 543 with its mark of request Q-1; each row a claim that the definitions decide; and a table of other cases.
 use mathlib.Core.Bool.{Bool, true, false, _&&_}
 use mathlib.Core.List.{List, [], _∷_, _++_}
 use Prim.Native.Nat.{ℕ, _*_}
@@ -45,7 +45,7 @@ samples =
     ∷ writes (replicate 63 0 ++ (0x80 ∷ [])) (replicate 63 0 ++ (0x80 ∷ 0xC7 ∷ 0x6F ∷ 0x66 ∷ 0x56 ∷ 0x09 ∷ 0x00 ∷ []))
     ∷ accepts (0 ∷ []) 1
     ∷ accepts (542 ∷ []) 1
-    ∷ accepts (543 ∷ []) 0
+    ∷ accepts (543 ∷ []) 1
     ∷ refuses (0 ∷ 1 ∷ []) 6 2
     ∷ refuses (2 ∷ 3 ∷ []) 1 543
     ∷ refuses (35 ∷ 552 ∷ []) 554 553

@@ -1,5 +1,5 @@
--- Every mark that repair gives is one of 0 to 4, and there is one for each line.
-use mathlib.Core.Path.{_≡_, _∙_}
+-- Every mark that repair gives is one of 0 to 4, and there is one for each line; marks 0 and 1 are those of reading alone.
+use mathlib.Core.Path.{_≡_, sym, ap, _∙_, subst}
 use mathlib.Core.Logic.{_⊎_, inl, inr}
 use mathlib.Core.Bool.{Bool, true, false, cond}
 use mathlib.Core.List.{List, [], _∷_}
@@ -10,9 +10,10 @@ use Rattle.gf2.specs.Word.{Word, flip}
 use Rattle.scheme.specs.Layer.{Cell, Reading, Layer, readLine, Promises}
 use Rattle.scheme.specs.Visit.{Group, State, cellAt, isFaulty, faultyOf, rebuild, rebuildOnly, settle, mismatch, tryPlaces, tryLines, triable, trial, visit}
 use Rattle.scheme.specs.Repair.{readAll, pass, repair, marksOf}
-use Rattle.scheme.specs.Marks.{RepairMarks}
+use Rattle.scheme.specs.Marks.{RepairMarks, MarkTells, MarksTell, RepairMarksTell}
+use Rattle.scheme.specs.Demand3.{wordAt}
 use Rattle.scheme.proofs.Passes.{by-rounds}
-use Rattle.scheme.proofs.Stays.{repair-length}
+use Rattle.scheme.proofs.Stays.{first-reading-at, repair-stays, repair-length}
 
 -- ---- every mark of a store is one of 0 to 4
 abbrev Marked : State → Type 0
@@ -101,3 +102,34 @@ repair-marks layer promises gs found =
         go : (readLine layer n w .mark ≤ 1) ⊎ (readLine layer n w .mark ≡ 4) → readLine layer n w .mark ≤ 4
         go (inl h) = omega arith
         go (inr e) = omega arith
+
+-- an accepted line stays as read; one that was faulty has mark 2 or more, and is not correct
+pub repair-marks-tell : (layer : Layer) → Promises layer → MarksTell layer → RepairMarksTell layer
+repair-marks-tell layer promises tells gs found n h l = go (promises .marks (layer .address n) w)
+  where
+    w : Word
+    w = wordAt found n
+
+    read : Cell
+    read = readLine layer n w
+
+    given : Cell
+    given = cellAt (repair (readLine layer) gs found .cells) n
+
+    first : cellAt (readAll (readLine layer) 0 found) n ≡ read
+    first = first-reading-at (readLine layer) found n h
+
+    alone : MarkTells layer (layer .address n) w read
+    alone = tells (layer .address n) w l
+
+    go : (read .mark ≤ 1) ⊎ (read .mark ≡ 4) → MarkTells layer (layer .address n) w given
+    go (inl low) =
+        subst (MarkTells layer (layer .address n) w)
+        (sym (repair-stays (readLine layer) gs found .accepted n (λ e. omega (arith, ap (λ (c : Cell). c .mark) first)) ∙ first))
+        alone
+    go (inr four) =
+        let high : 2 ≤ given .mark = repair-stays (readLine layer) gs found .mended n (ap (λ (c : Cell). c .mark) first ∙ four) in
+        record {
+          clean = (λ e. let z : ⊥ = omega arith in absurd z, λ c. let z : ⊥ = omega (arith, alone .clean .1 c) in absurd z);
+          rewritten = (λ e. let z : ⊥ = omega arith in absurd z, λ p. absurd (p .0 four));
+        }

@@ -7,7 +7,7 @@ use lib.Bits.{bitXor}
 use lib.ListN.{length}
 use Rattle.gf2.specs.Word.{Word, _⊕_, distance}
 
--- a line and its mark: 0 accepted untouched, 1 accepted after a flip, 2 mended by trial, 3 rebuilt, 4 faulty
+-- a line and its mark: 0 correct as found, 1 accepted and rewritten somewhere, 2 mended by trial, 3 rebuilt, 4 faulty
 pub record Cell : Type 0 where
   pub line : Word
   pub mark : ℕ

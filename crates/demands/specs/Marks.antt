@@ -1,0 +1,49 @@
+-- Request Q-1, "Damage in the Hamming bits was invisible": what the marks that repair gives tell, and that nothing else moved.
+use mathlib.Core.Path.{_≡_}
+use mathlib.Core.Logic.{_⊎_, _↔_}
+use mathlib.Core.Bool.{true, cond}
+use mathlib.Core.List.{List}
+use Prim.Native.Nat.{ℕ, _≤_, _<_}
+use lib.Dec.{eqb}
+use lib.ListN.{getD}
+use Rattle.gf2.specs.Word.{distance}
+use Rattle.scheme.specs.Layer.{Reading, CorrectLine}
+use Rattle.scheme.specs.Repair.{repair}
+use Rattle.rectangle.specs.Store.{lineLayer, readUnderBefore, placesAt, linesIn, groups}
+use Rattle.rectangle.specs.Refusals.{acceptedAt, repairRefusal}
+use Rattle.rectangle.specs.Repair.{StoreRepaired, handsOver, handedOver}
+use Rattle.demands.specs.Demands.{Rectangle, count, repairOf}
+
+-- ---- "Reading alone now says whether any of the 553 places was rewritten, and mark 1 means an accepted line that was rewritten anywhere.
+-- Mark 0 is left for lines correct as found."
+-- what the mark of line n tells (a mark left out would be a 4)
+pub record MarkTells (r : Rectangle) (given : StoreRepaired) (n : ℕ) : Type 0 where
+  pub clean : (getD (given .marks) n 4 ≡ 0) ↔ CorrectLine lineLayer n (placesAt (r .lines) n)
+  pub rewritten : (getD (given .marks) n 4 ≡ 1)
+      ↔ ((acceptedAt (r .lines) n ≡ true) × (1 ≤ distance (placesAt (r .lines) n) (placesAt (given .lines) n)))
+
+abbrev pub MarksTellDamage : Type 0
+MarksTellDamage =
+    (r : Rectangle) (out marks : List ℕ) → handsOver (repairOf r out marks .answer) ≡ true
+    → (n : ℕ) → n < count r → MarkTells r (repairOf r out marks) n
+
+-- ---- "bytes, passes and answers are compared as before."
+-- repair with the reading of before
+unfoldable pub repairBefore : Rectangle → List ℕ → List ℕ → StoreRepaired
+repairBefore r out marks =
+    let refusal = repairRefusal (r .rows) (r .columns) (r .lines) (r .rowTable) (r .columnTable) out marks in
+    let gs = groups (r .rows) (r .columns) (r .rowTable) (r .columnTable) in
+    let read : Reading = λ n found. readUnderBefore (lineLayer .address n) found in
+    cond (eqb refusal 0) (handedOver gs (repair read gs (linesIn (count r) (r .lines))))
+    (record { answer = refusal; passes = 0; lines = out; marks = marks })
+
+-- the same answer, passes and bytes of lines; a mark is the same, or was and is 0 or 1, so that marks 2, 3 and 4 are as before
+pub record SameButMarks (before now : StoreRepaired) : Type 0 where
+  pub answer : before .answer ≡ now .answer
+  pub passes : before .passes ≡ now .passes
+  pub lines : before .lines ≡ now .lines
+  pub marks : (n : ℕ) → (getD (before .marks) n 0 ≡ getD (now .marks) n 0)
+      ⊎ ((getD (before .marks) n 0 ≤ 1) × (getD (now .marks) n 0 ≤ 1))
+
+abbrev pub RepairedAsBefore : Type 0
+RepairedAsBefore = (r : Rectangle) (out marks : List ℕ) → SameButMarks (repairBefore r out marks) (repairOf r out marks)
