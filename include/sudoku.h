@@ -93,8 +93,8 @@ enum sudoku_answer {
 
 /* Marks: what became of a line. Reading alone gives 0, 1 or 4. */
 enum sudoku_mark {
-    SUDOKU_MARK_UNTOUCHED = 0, /* accepted, data and check as they were */
-    SUDOKU_MARK_FLIPPED = 1,   /* accepted after one bit was flipped */
+    SUDOKU_MARK_CLEAN = 0,     /* correct as found (its spare bits do not count) */
+    SUDOKU_MARK_REWRITTEN = 1, /* accepted, and rewritten: a bit of data or check was flipped, or Hamming bits were written afresh */
     SUDOKU_MARK_TRIAL = 2,     /* mended by trial: one bit was flipped where the line's row or column does not sum up */
     SUDOKU_MARK_REBUILT = 3,   /* rebuilt from the parity line and the other lines of its row or column */
     SUDOKU_MARK_FAULTY = 4     /* faulty: given as found, spare bits 0 */
@@ -108,10 +108,11 @@ enum sudoku_mark {
 uint32_t sudoku_write_line(const uint8_t *data, size_t data_len, uint8_t *line, size_t line_len);
 
 /*
- * Reads one line alone into `out`, 70 bytes with spare bits 0, and sets `mark`. One damaged bit is mended.
+ * Reads one line alone into `out`, 70 bytes with spare bits 0, and sets `mark`. One damaged bit is mended, and so is any damage in
+ * the ten Hamming bits alone.
  *
- * Answers: 0, with mark 0 or 1; 5 if `line_len` is not 70; 7 if `out_len` is not 70; 10 if the line is faulty: `out` is then the
- * line as found, spare bits 0, and the mark is 4.
+ * Answers: 0, with mark 0 if the line is correct as found and 1 if any of its bits, spare bits apart, was rewritten; 5 if `line_len`
+ * is not 70; 7 if `out_len` is not 70; 10 if the line is faulty: `out` is then the line as found, spare bits 0, and the mark is 4.
  */
 uint32_t sudoku_read_line(const uint8_t *line, size_t line_len, uint8_t *out, size_t out_len, uint8_t *mark);
 

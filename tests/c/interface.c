@@ -82,16 +82,38 @@ static void reading(void)
     CHECK(sudoku_read_line(found, LINE, line, LINE + 1, &mark) == SUDOKU_BUFFER && mark == 0);
     CHECK(UNTOUCHED(line));
 
-    CHECK(sudoku_read_line(found, LINE, line, LINE, &mark) == SUDOKU_DONE && mark == SUDOKU_MARK_UNTOUCHED);
-    found[0] = 1;
+    CHECK(sudoku_read_line(found, LINE, line, LINE, &mark) == SUDOKU_DONE && mark == SUDOKU_MARK_CLEAN);
     found[69] = 0xFC;
-    CHECK(sudoku_read_line(found, LINE, line, LINE, &mark) == SUDOKU_DONE && mark == SUDOKU_MARK_FLIPPED);
+    CHECK(sudoku_read_line(found, LINE, line, LINE, &mark) == SUDOKU_DONE && mark == SUDOKU_MARK_CLEAN);
+    CHECK(memcmp(line, zero, LINE) == 0);
+    found[0] = 1;
+    CHECK(sudoku_read_line(found, LINE, line, LINE, &mark) == SUDOKU_DONE && mark == SUDOKU_MARK_REWRITTEN);
     CHECK(memcmp(line, zero, LINE) == 0);
     found[0] = 3;
     CHECK(sudoku_read_line(found, LINE, line, LINE, &mark) == SUDOKU_FAULTY && mark == SUDOKU_MARK_FAULTY);
     found[69] = 0;
     CHECK(memcmp(line, found, LINE) == 0);
     CHECK(INTACT(line));
+}
+
+/* Any of the ten Hamming bits hurt, and nothing else: the line is mended, and its mark tells. */
+static void reading_hamming_bits(void)
+{
+    uint8_t found[LINE] = {0};
+    static const uint8_t zero[LINE] = {0};
+    unsigned mended = 0;
+
+    for (unsigned bits = 1; bits < 1024; bits++) {
+        uint8_t mark = 77;
+
+        FILL(line);
+        found[68] = (uint8_t)(bits & 0xFF);
+        found[69] = (uint8_t)(bits >> 8);
+        if (sudoku_read_line(found, LINE, line, LINE, &mark) == SUDOKU_DONE && mark == SUDOKU_MARK_REWRITTEN
+            && memcmp(line, zero, LINE) == 0 && INTACT(line))
+            mended++;
+    }
+    CHECK(mended == 1023);
 }
 
 static void tables(void)
@@ -170,10 +192,13 @@ static void repairing(void)
     lines[0] ^= 3;
     lines[LINE] ^= 12;
     lines[2 * LINE] ^= 1;
+    lines[4 * LINE + 68] ^= 1;
+    lines[5 * LINE + 69] ^= 2;
     CHECK(repair(COUNT * LINE, COUNT, &passes) == SUDOKU_DONE && passes == 1);
     CHECK(memcmp(out, written, sizeof written) == 0);
     CHECK(marks[0] == SUDOKU_MARK_TRIAL && marks[1] == SUDOKU_MARK_TRIAL);
-    CHECK(marks[2] == SUDOKU_MARK_FLIPPED && marks[3] == SUDOKU_MARK_UNTOUCHED);
+    CHECK(marks[2] == SUDOKU_MARK_REWRITTEN && marks[3] == SUDOKU_MARK_CLEAN);
+    CHECK(marks[4] == SUDOKU_MARK_REWRITTEN && marks[5] == SUDOKU_MARK_REWRITTEN);
     memcpy(lines, written, sizeof written);
     for (size_t n = 0; n < COUNT; n++)
         if (n % COLUMNS < 2)
@@ -194,6 +219,7 @@ int main(void)
     FILL(marks);
     writing();
     reading();
+    reading_hamming_bits();
     tables();
     changing();
     repairing();

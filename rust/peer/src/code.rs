@@ -242,6 +242,12 @@ fn own_hamming_bits(line: &Words) -> u64 {
     hamming_bits(data_of(line), line[8] as u32 & CRC_BITS)
 }
 
+/// The last word with the Hamming bits afresh.
+#[inline]
+fn with_own_hamming_bits(line: &Words) -> u64 {
+    line[8] & u64::from(CRC_BITS) | own_hamming_bits(line) << 32
+}
+
 /// Whether a line is what writing its data gives.
 pub fn correct(line: &Words) -> bool {
     remainder(line) == 0 && own_hamming_bits(line) == line[8] >> 32
@@ -250,11 +256,16 @@ pub fn correct(line: &Words) -> bool {
 /// Reads a line alone, in place; gives its mark.
 #[inline]
 pub fn read_alone(line: &mut Words) -> u8 {
-    if remainder(line) == 0 {
-        line[8] = line[8] & u64::from(CRC_BITS) | own_hamming_bits(line) << 32;
-        mark::UNTOUCHED
+    if remainder(line) != 0 {
+        return read_hurt(line);
+    }
+    let found = line[8];
+    line[8] = with_own_hamming_bits(line);
+    // Only the Hamming bits can have changed.
+    if line[8] == found {
+        mark::CLEAN
     } else {
-        read_hurt(line)
+        mark::REWRITTEN
     }
 }
 
@@ -264,8 +275,8 @@ fn read_hurt(line: &mut Words) -> u8 {
     match Trouble::of(line).flip() {
         Some(Flip::Place(place)) => {
             flip(line, place);
-            line[8] = line[8] & u64::from(CRC_BITS) | own_hamming_bits(line) << 32;
-            mark::FLIPPED
+            line[8] = with_own_hamming_bits(line);
+            mark::REWRITTEN
         }
         _ => mark::FAULTY,
     }

@@ -1,12 +1,13 @@
 //! The caption store's line code and repair, as fast as safe Rust for any
 //! x86-64 makes them: the measure that the proved library is held against.
 //!
-//! The rules are document 01's. A line is nine 64-bit words: eight of data,
-//! and one with the CRC in bits 0 to 30 and the Hamming bits from bit 32.
-//! The CRC goes by tables, sixteen bytes at a time; the Hamming bits by moving
-//! places to their positions, a word at a time, and folding. Repair reads
-//! every line once, keeps for each group what its lines lack of its parity
-//! line, and from then on looks only at groups in which something changed.
+//! The rules are document 01's, with request Q-1 of document 02. A line is
+//! nine 64-bit words: eight of data, and one with the CRC in bits 0 to 30 and
+//! the Hamming bits from bit 32. The CRC goes by tables, sixteen bytes at a
+//! time; the Hamming bits by moving places to their positions, a word at a
+//! time, and folding. Repair reads every line once, keeps for each group what
+//! its lines lack of its parity line, and from then on looks only at groups in
+//! which something changed.
 
 mod code;
 mod rectangle;
@@ -31,8 +32,8 @@ mod answer {
 }
 
 mod mark {
-    pub const UNTOUCHED: u8 = 0;
-    pub const FLIPPED: u8 = 1;
+    pub const CLEAN: u8 = 0;
+    pub const REWRITTEN: u8 = 1;
     pub const TRIAL: u8 = 2;
     pub const REBUILT: u8 = 3;
     pub const FAULTY: u8 = 4;
@@ -43,7 +44,8 @@ mod mark {
 pub struct ReadLine {
     /// The answer.
     pub answer: u32,
-    /// The mark: 0 or 1 with answer 0, 4 with answer 10, else 0.
+    /// The mark: with answer 0, 0 if the line is correct as found and 1 if any
+    /// place was rewritten; 4 with answer 10; else 0.
     pub mark: u8,
 }
 

@@ -89,21 +89,36 @@ impl LineCode {
         self.hamming.syndrome(protected, hamming)
     }
 
-    /// Reading alone: the line as accepted with mark 0 or 1, or as found with
-    /// mark 4.
+    /// Reading alone: the line as accepted, with mark 1 if any place of it was
+    /// rewritten and 0 if none was; or the line as found with mark 4.
     pub fn read_alone(&self, line: &[bool]) -> (Vec<bool>, u8) {
         let found = fit(line, self.places());
-        if self.divisible(&found) {
-            return (self.hamming_afresh(found), mark::UNTOUCHED);
+        let Some(read) = self.accepted(&found) else {
+            return (found, mark::FAULTY);
+        };
+        let rewritten = (0..self.places()).any(|place| read[place] != found[place]);
+        let mark = if rewritten {
+            mark::REWRITTEN
+        } else {
+            mark::CLEAN
+        };
+        (read, mark)
+    }
+
+    /// The line as it is accepted, Hamming bits afresh; none if it is faulty.
+    fn accepted(&self, found: &[bool]) -> Option<Vec<bool>> {
+        if self.divisible(found) {
+            return Some(self.hamming_afresh(found.to_vec()));
         }
-        if let Named::Protected(place) = self.hamming.named(self.syndrome(&found)) {
-            let mut flipped = found.clone();
-            flipped[place] ^= true;
-            if self.divisible(&flipped) {
-                return (self.hamming_afresh(flipped), mark::FLIPPED);
-            }
+        let Named::Protected(place) = self.hamming.named(self.syndrome(found)) else {
+            return None;
+        };
+        let mut flipped = found.to_vec();
+        flipped[place] ^= true;
+        if !self.divisible(&flipped) {
+            return None;
         }
-        (found, mark::FAULTY)
+        Some(self.hamming_afresh(flipped))
     }
 
     /// Whether a line's places are what writing its data gives.

@@ -1,5 +1,5 @@
-//! A second implementation of the caption store, written from its rules
-//! (document 01) alone.
+//! A second implementation of the caption store, written from its rules alone:
+//! document 01, with request Q-1 of document 02.
 //!
 //! It is made to be read beside that document, not to be fast: a line is a
 //! row of 553 truth values, a check is a long division, and repair follows
@@ -15,6 +15,7 @@
 //! | "Repair" | [`repair`](mod@repair) |
 //! | "Store file" | [`file`](mod@file) |
 //! | "Turned back, in checking order" | [`answer`] |
+//! | The marks, as Q-1 changes them | [`mark`] |
 //!
 //! [`random`] and [`draw`] make inputs for tests: stores, damage and files,
 //! each the same again for the same seed.
@@ -31,6 +32,13 @@
 //! let mut hurt = line;
 //! hurt[5] ^= 0x10;
 //! let mut out = [0; 70];
+//! let read = reference::read_line(&hurt, &mut out);
+//! assert_eq!((read.answer, read.mark), (0, 1));
+//! assert_eq!(out, line);
+//!
+//! // A hurt Hamming bit shows in the mark too.
+//! let mut hurt = line;
+//! hurt[68] ^= 0x01;
 //! let read = reference::read_line(&hurt, &mut out);
 //! assert_eq!((read.answer, read.mark), (0, 1));
 //! assert_eq!(out, line);
@@ -111,12 +119,12 @@ pub mod answer {
     pub const DIFFERS: u32 = 12;
 }
 
-/// The marks, by document 01's numbers.
+/// The marks, by document 01's numbers; 0 and 1 mean what request Q-1 says.
 pub mod mark {
-    /// Accepted with the protected word untouched.
-    pub const UNTOUCHED: u8 = 0;
-    /// Accepted after a flip.
-    pub const FLIPPED: u8 = 1;
+    /// Correct as found.
+    pub const CLEAN: u8 = 0;
+    /// Accepted, and some place was rewritten.
+    pub const REWRITTEN: u8 = 1;
     /// Mended by trial.
     pub const TRIAL: u8 = 2;
     /// Rebuilt from its group.

@@ -109,7 +109,8 @@ pub fn write_line(data: &[u8], line: &mut [u8]) -> u32 {
 pub struct ReadLine {
     /// The answer.
     pub answer: u32,
-    /// The mark: 0 or 1 with answer 0, 4 with answer 10, else 0.
+    /// The mark: with answer 0, 0 if the line is correct as found and 1 if any
+    /// place was rewritten; 4 with answer 10; else 0.
     pub mark: u8,
 }
 

@@ -133,10 +133,11 @@ impl Error for Answer {}
 /// What a reading or a repair says of a line.
 #[derive(Clone, Copy, Debug, PartialEq, Eq, Hash)]
 pub enum Mark {
-    /// 0: accepted, with the data and the CRC untouched.
-    Untouched,
-    /// 1: accepted after one bit was flipped.
-    Flipped,
+    /// 0: correct as found; its spare bits don't count.
+    Clean,
+    /// 1: accepted, and rewritten somewhere: a bit of data or check was
+    /// flipped, or Hamming bits were written afresh.
+    Rewritten,
     /// 2: mended by trial.
     Trial,
     /// 3: rebuilt from its row or column.
@@ -152,13 +153,14 @@ impl Mark {
     ///
     /// ```
     /// use sudoku::Mark;
+    /// assert_eq!(Mark::from_number(0), Mark::Clean);
     /// assert_eq!(Mark::from_number(3), Mark::Rebuilt);
     /// assert_eq!(Mark::from_number(3).number(), 3);
     /// ```
     pub fn from_number(number: u8) -> Mark {
         match number {
-            0 => Mark::Untouched,
-            1 => Mark::Flipped,
+            0 => Mark::Clean,
+            1 => Mark::Rewritten,
             2 => Mark::Trial,
             3 => Mark::Rebuilt,
             4 => Mark::Faulty,
@@ -169,8 +171,8 @@ impl Mark {
     /// This mark's number.
     pub fn number(self) -> u8 {
         match self {
-            Mark::Untouched => 0,
-            Mark::Flipped => 1,
+            Mark::Clean => 0,
+            Mark::Rewritten => 1,
             Mark::Trial => 2,
             Mark::Rebuilt => 3,
             Mark::Faulty => 4,

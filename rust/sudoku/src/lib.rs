@@ -1,11 +1,11 @@
 //! A caption store whose repair is proved correct.
 //!
 //! A caption is 64 bytes of data and stands in a line of 70 bytes: the data, a
-//! 31-bit check and ten bits that find one damaged bit. A [`Store`] holds
-//! rows × columns of such lines and a parity line for each row and column, and
-//! [`Store::repair`] mends damaged lines from these. The work is done by the
-//! static library `libcapi.a`, whose functions are proved to follow the
-//! store's rules; this crate is a safe way to call it.
+//! 31-bit check and ten bits that find one damaged bit, the Hamming bits. A
+//! [`Store`] holds rows × columns of such lines and a parity line for each row
+//! and column, and [`Store::repair`] mends damaged lines from these. The work
+//! is done by the static library `libcapi.a`, whose functions are proved to
+//! follow the store's rules; this crate is a safe way to call it.
 //!
 //! Nothing here panics on bad input: what is refused comes back as an
 //! [`Answer`]. Calls keep no state, so threads may call at once; making tables

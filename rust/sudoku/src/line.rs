@@ -24,7 +24,8 @@ pub struct Read {
     /// The line read, or the line as found if it is faulty; its spare bits
     /// are 0.
     pub line: [u8; LINE_BYTES],
-    /// [`Mark::Untouched`], [`Mark::Flipped`] or [`Mark::Faulty`].
+    /// [`Mark::Clean`] if the line was correct as found, [`Mark::Rewritten`] if
+    /// it was mended, or [`Mark::Faulty`].
     pub mark: Mark,
 }
 
@@ -42,7 +43,8 @@ impl Read {
     }
 }
 
-/// Reads one line alone: one damaged bit is mended.
+/// Reads one line alone: one damaged bit is mended, and so is any damage in the
+/// ten Hamming bits alone.
 ///
 /// ```
 /// use sudoku::{Mark, read_line, write_line};
@@ -51,11 +53,24 @@ impl Read {
 /// let mut hurt = line;
 /// hurt[5] ^= 0x10;
 /// let read = read_line(&hurt);
-/// assert_eq!(read.mark, Mark::Flipped);
+/// assert_eq!(read.mark, Mark::Rewritten);
 /// assert_eq!(read.line, line);
 ///
 /// hurt[9] ^= 0x01;
 /// assert!(read_line(&hurt).is_faulty());
+///
+/// // All ten Hamming bits are damaged, and no other: the line is mended.
+/// let mut hurt = line;
+/// hurt[68] ^= 0xFF;
+/// hurt[69] ^= 0x03;
+/// let read = read_line(&hurt);
+/// assert_eq!(read.mark, Mark::Rewritten);
+/// assert_eq!(read.line, line);
+///
+/// // The spare bits don't count.
+/// let mut spare = line;
+/// spare[69] |= 0xFC;
+/// assert_eq!(read_line(&spare).mark, Mark::Clean);
 /// ```
 pub fn read_line(line: &[u8; LINE_BYTES]) -> Read {
     let mut out = [0; LINE_BYTES];

@@ -30,6 +30,10 @@ fn numbers_and_names_of_answers_and_marks() {
     for number in 0..=255 {
         assert_eq!(Mark::from_number(number).number(), number);
     }
+    assert_eq!(
+        [0, 1].map(Mark::from_number),
+        [Mark::Clean, Mark::Rewritten]
+    );
     assert_eq!(Answer::Done.done(), Ok(()));
     assert_eq!(Answer::Left.done(), Err(Answer::Left));
     assert_eq!(Answer::Left.to_string(), "faulty lines are left");
@@ -69,7 +73,7 @@ fn writing_reading_and_changing() {
     for (n, data) in data.iter().enumerate() {
         assert_eq!(store.line(n), Ok(&write_line(data)));
         let read = store.read(n).expect("a line");
-        assert_eq!((read.data(), read.mark), (*data, Mark::Untouched));
+        assert_eq!((read.data(), read.mark), (*data, Mark::Clean));
     }
     store.change(7, &[9; 64]).expect("a change");
     let mut anew = store.clone();
@@ -77,7 +81,12 @@ fn writing_reading_and_changing() {
     assert_eq!(anew, store);
     let mut hurt = write_line(&[9; 64]);
     hurt[0] ^= 1;
-    assert_eq!(read_line(&hurt).mark, Mark::Flipped);
+    assert_eq!(read_line(&hurt).mark, Mark::Rewritten);
+    // A Hamming bit alone.
+    let mut hurt = write_line(&[9; 64]);
+    hurt[68] ^= 1;
+    let read = read_line(&hurt);
+    assert_eq!((read.data(), read.mark), ([9; 64], Mark::Rewritten));
 }
 
 #[test]

@@ -198,8 +198,8 @@ fn a_damaged_parity_line_is_refused_or_gone_by() {
 
 /// Reads one line alone with every pair of its places hurt.
 ///
-/// Two Hamming bits: the line comes back. Any other pair: it is faulty, and
-/// given back as found.
+/// Two Hamming bits: the line comes back, with mark 1. Any other pair: it is
+/// faulty, and given back as found.
 fn all_pairs(line: [u8; LINE_BYTES]) -> usize {
     let mut count = 0;
     for b in 0..PLACES {
@@ -209,7 +209,7 @@ fn all_pairs(line: [u8; LINE_BYTES]) -> usize {
             let mut out = [0xEE; LINE_BYTES];
             let (answer, mark) = Library.read_line(&found, &mut out);
             if a >= PROTECTED_PLACES {
-                assert_eq!((answer, mark, out), (0, 0, line), "places {a} and {b}");
+                assert_eq!((answer, mark, out), (0, 1, line), "places {a} and {b}");
             } else {
                 assert_eq!((answer, mark, out), (10, 4, found), "places {a} and {b}");
             }
@@ -234,8 +234,7 @@ fn all_single_places() {
         let mut found = line;
         draw::flip(&mut found, &[place]);
         let mut out = [0xEE; LINE_BYTES];
-        let mark = u8::from(place < PROTECTED_PLACES);
-        assert_eq!(Library.read_line(&found, &mut out), (0, mark));
+        assert_eq!(Library.read_line(&found, &mut out), (0, 1));
         assert_eq!(out, line);
     }
 }

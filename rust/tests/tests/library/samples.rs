@@ -23,7 +23,7 @@ fn zero_line_hurt(places: &[usize]) -> [u8; LINE_BYTES] {
 }
 
 /// Reads alone; gives the line, the mark and the answer.
-fn read(on: &dyn Interface, line: &[u8]) -> (Vec<u8>, u8, u32) {
+pub fn read(on: &dyn Interface, line: &[u8]) -> (Vec<u8>, u8, u32) {
     let mut out = Guarded::new(&[FILLING; LINE_BYTES], 3);
     let (answer, mark) = on.read_line(line, out.content_mut());
     assert!(out.intact());
@@ -31,7 +31,7 @@ fn read(on: &dyn Interface, line: &[u8]) -> (Vec<u8>, u8, u32) {
 }
 
 /// What repair gives for a store.
-fn repaired(on: &dyn Interface, store: &Store) -> Outcome {
+pub fn repaired(on: &dyn Interface, store: &Store) -> Outcome {
     let mut lines = Guarded::new(&vec![FILLING; store.lines.len()], 1);
     let mut marks = Guarded::new(&vec![FILLING; store.count()], 7);
     let (answer, passes) = on.repair(
@@ -84,7 +84,7 @@ fn lines_written() {
 #[test]
 fn lines_read_alone() {
     for on in both() {
-        for (place, mark) in [(0, 1), (542, 1), (543, 0)] {
+        for (place, mark) in [(0, 1), (542, 1), (543, 1)] {
             let hurt = zero_line_hurt(&[place]);
             assert_eq!(read(on, &hurt), (ZERO_LINE.to_vec(), mark, 0));
         }
