@@ -132,6 +132,10 @@ head -c 70 /dev/zero >"$room/70"
 cat "$room/header" "$room/line" "$room/210" "$room/line" "$room/70" "$room/line" "$room/70" >"$room/caption"
 same "the line of docs/FORMAT.md" "$(cat crates/storecheck/stdout)" "$(bin/storecheck "$room/caption")"
 
+# The store of zero bytes with place 543 of line 0 hurt, a Hamming bit: bit 0 of byte 68. The line mends itself.
+{ cat "$room/header"; head -c 68 /dev/zero; printf '\001'; head -c 491 /dev/zero; } >"$room/hamming"
+same "a hurt Hamming bit" "$(sed 's/^clean 4$/clean 3/; s/^alone 0$/alone 1/' crates/storecheck/stdout)" "$(bin/storecheck "$room/hamming")"
+
 # Building, with a toolchain that only says what it would: each of its lines is shown, and its status counts.
 mkdir -p "$room/copy/bin" "$room/copy/crates" "$room/tools"
 cp bin/storecheck "$room/copy/bin"

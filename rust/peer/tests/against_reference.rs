@@ -98,12 +98,17 @@ fn read_line_agrees() {
     for mark in [0, 1, 4] {
         assert!(marks[mark] > 1000);
     }
-    // Every single place of a line.
+    // Every single place of a line, and any of its Hamming bits.
     let line = draw::correct_line(&mut random);
     for place in 0..PLACES {
         let mut hurt = line;
         draw::flip(&mut hurt, &[place]);
-        same_reading(&hurt);
+        assert_eq!(same_reading(&hurt), 1);
+    }
+    for _ in 0..2_000 {
+        let mut hurt = line;
+        draw::flip(&mut hurt, &draw::hamming_places(&mut random));
+        assert_eq!(same_reading(&hurt), 1);
     }
 }
 

@@ -8,8 +8,8 @@
 use crate::line::{self, SPARE};
 use crate::random::Random;
 use crate::{
-    DATA_BYTES, DATA_PLACES, LINE_BYTES, PLACES, PROTECTED_PLACES, answer, file, make_tables,
-    repair, write_line,
+    DATA_BYTES, DATA_PLACES, HAMMING_PLACES, LINE_BYTES, PLACES, PROTECTED_PLACES, answer, file,
+    make_tables, repair, write_line,
 };
 
 /// A store: its sides, its lines and both tables as bytes.
@@ -186,6 +186,15 @@ pub fn places(random: &mut Random, count: usize) -> Vec<usize> {
     places
 }
 
+/// One to ten different Hamming places, rising.
+pub fn hamming_places(random: &mut Random) -> Vec<usize> {
+    let mut places: Vec<usize> = (PROTECTED_PLACES..PLACES).collect();
+    random.shuffle(&mut places);
+    places.truncate(random.between(1, HAMMING_PLACES));
+    places.sort_unstable();
+    places
+}
+
 /// Sides from 2 to `most`, small ones more often.
 pub fn sides(random: &mut Random, most: usize) -> (usize, usize) {
     let mut side = || {
@@ -239,6 +248,9 @@ pub enum Damage {
     Cancelling,
     /// Spare bits set in lines and tables, and a few lines hurt.
     SpareBits,
+    /// Lines hurt in one to ten of their Hamming bits and nowhere else, and a
+    /// few lines hurt anywhere.
+    HammingBits,
     /// A parity line hurt at one to three places.
     ParityHurt,
     /// A parity line replaced by another correct one, and a few lines hurt.
@@ -251,7 +263,7 @@ pub enum Damage {
 
 impl Damage {
     /// Every way.
-    pub const ALL: [Damage; 17] = [
+    pub const ALL: [Damage; 18] = [
         Damage::Nothing,
         Damage::Singles,
         Damage::Scattered,
@@ -265,6 +277,7 @@ impl Damage {
         Damage::NearForeign,
         Damage::Cancelling,
         Damage::SpareBits,
+        Damage::HammingBits,
         Damage::ParityHurt,
         Damage::ParityForeign,
         Damage::Noise,
@@ -397,6 +410,15 @@ pub fn hurt(random: &mut Random, store: &mut Store, way: Damage) {
             set_spare_bits(random, &mut store.column_table, 2);
             hurt(random, store, Damage::Crowded);
         }
+        Damage::HammingBits => {
+            let times = random.between(1, 4);
+            for n in 0..store.count() {
+                if random.once_in(times) {
+                    store.hurt(n, &hamming_places(random));
+                }
+            }
+            hurt_a_few(random, store);
+        }
         Damage::ParityHurt => {
             let count = random.between(1, 3);
             let places = places(random, count);
@@ -406,10 +428,7 @@ pub fn hurt(random: &mut Random, store: &mut Store, way: Damage) {
         Damage::ParityForeign => {
             let foreign = correct_line(random);
             parity_line(random, store).copy_from_slice(&foreign);
-            let way = *random
-                .pick(&[Damage::Nothing, Damage::Crowded, Damage::NearSix])
-                .unwrap_or(&Damage::Nothing);
-            hurt(random, store, way);
+            hurt_a_few(random, store);
         }
         Damage::Noise => {
             let times = random.between(1, 8);
@@ -427,6 +446,14 @@ pub fn hurt(random: &mut Random, store: &mut Store, way: Damage) {
             }
         }
     }
+}
+
+/// Hurts a few lines of a group or two, or none.
+fn hurt_a_few(random: &mut Random, store: &mut Store) {
+    let way = *random
+        .pick(&[Damage::Nothing, Damage::Crowded, Damage::NearSix])
+        .unwrap_or(&Damage::Nothing);
+    hurt(random, store, way);
 }
 
 /// The lines of a drawn row or column.

@@ -134,10 +134,15 @@ fn single_lines_agree() {
             tally.compare(Entry::Write, &call, &mut random);
             continue;
         }
-        // A line hurt at few places, or any bytes, or a foreign syndrome.
+        // A line hurt at few places or in Hamming bits alone, or any bytes, or
+        // a foreign syndrome.
         call.line = draw::correct_line(&mut random).to_vec();
         let hurt = random.below(9);
-        let places = draw::places(&mut random, hurt);
+        let places = if random.once_in(6) {
+            draw::hamming_places(&mut random)
+        } else {
+            draw::places(&mut random, hurt)
+        };
         draw::flip(&mut call.line, &places);
         if random.once_in(3) {
             draw::set_spare_bits(&mut random, &mut call.line, 1);

@@ -9,6 +9,8 @@ use library_tests::{cases, seed};
 use reference::draw::{self, Store};
 use reference::random::Random;
 
+use crate::marks::q1;
+
 /// Where the program is built: `target/bin/storecheck` of the repository, or
 /// what `SUDOKU_STORECHECK` says.
 fn program() -> PathBuf {
@@ -61,6 +63,12 @@ fn storecheck_agrees() {
         assert_eq!(printed(&program, file), expected, "file {i}");
     }
     println!("storecheck: {} files", files.len());
+}
+
+#[test]
+fn hamming_bits_count_under_alone() {
+    let (store, report) = q1::report();
+    assert_eq!(printed(&program(), &store.file()), report);
 }
 
 #[test]
