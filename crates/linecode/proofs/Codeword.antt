@@ -93,7 +93,12 @@ module _ (w : Word) (whole : length w ≡ linePlaces) where
       ∙ sym (same-number (digits 10 s) (storedHamming w) (length-digits 10 s ∙ sym length-storedHamming))
       ∙ ap (λ (n : ℕ). eqb n (number (storedHamming w))) (number-small 10 s (position-sum-lt (protected w)))
 
-  -- so that writing them afresh leaves the line as it is
+  -- writing them afresh leaves the protected word as it is
+  pub protected-rewritten : protected (withHamming (protected w)) ≡ protected w
+  unfolding protected withHamming
+  protected-rewritten = take-at (protected w) (hamming (protected w)) protectedPlaces length-protected
+
+  -- and the whole line exactly where they are the sum of positions
   pub rewritten-same : same w (withHamming (protected w)) ≡ eqb (columnSum positions (protected w)) (number (storedHamming w))
   unfolding withHamming
   rewritten-same =

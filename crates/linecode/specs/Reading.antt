@@ -11,17 +11,21 @@ pub record Read : Type 0 where
   pub word : Word
   pub mark : ℕ
 
--- accepted: Hamming bits written afresh
-abbrev pub acceptedAs : ℕ → Word → Read
-acceptedAs mark w = record { word = withHamming (protected w); mark = mark }
+-- the mark of an accepted line: 0 correct as found, 1 where any of its places was rewritten
+abbrev pub markOf : Word → Word → ℕ
+markOf found fresh = cond (same found fresh) 0 1
+
+-- accepted, as written afresh
+abbrev pub acceptedAs : Word → Word → Read
+acceptedAs found fresh = record { word = fresh; mark = markOf found fresh }
 
 -- faulty: kept as found
 abbrev pub faulty : Word → Read
 faulty w = record { word = w; mark = 4 }
 
--- the second look at the CRC, after the flip
+-- the second look at the CRC, after the flip: Hamming bits written afresh too
 abbrev pub afterFlip : Bool → Word → Word → Read
-afterFlip true flipped w = acceptedAs 1 flipped
+afterFlip true flipped w = acceptedAs w (withHamming (protected flipped))
 afterFlip false flipped w = faulty w
 
 -- the corrector: where the syndrome names a protected place, flip it
@@ -30,18 +34,10 @@ corrected None w = faulty w
 corrected (Hamming k) w = faulty w
 corrected (Protected i) w = afterFlip (accepted (flip i w)) (flip i w) w
 
--- the first look: a divisible word is accepted, with this mark
-abbrev pub firstLook : ℕ → Bool → Word → Read
-firstLook mark true w = acceptedAs mark w
-firstLook mark false w = corrected (answerTo (syndrome w)) w
-
--- the mark at the first look: 0 for a line correct as found, 1 where its Hamming bits are rewritten
-unfoldable pub markOf : Word → ℕ
-markOf w = cond (same w (withHamming (protected w))) 0 1
+-- the first look: a divisible word is accepted, its Hamming bits written afresh
+abbrev pub firstLook : Bool → Word → Read
+firstLook true w = acceptedAs w (withHamming (protected w))
+firstLook false w = corrected (answerTo (syndrome w)) w
 
 unfoldable pub readAlone : Word → Read
-readAlone w = firstLook (markOf w) (accepted w) w
-
--- as it was before request Q-1, for comparison alone: mark 0 for every divisible word, 1 after a flip
-unfoldable pub readBefore : Word → Read
-readBefore w = firstLook 0 (accepted w) w
+readAlone w = firstLook (accepted w) w

@@ -4,7 +4,7 @@ use crate::hamming;
 ghost use mathlib.Core.Path.{_≡_};
 ghost use Rattle.gf2.specs.Check.{columnSum};
 ghost use Rattle.linecode.specs.Places.{places};
-ghost use Rattle.linecode.specs.Code.{protected, positions};
+ghost use Rattle.linecode.specs.Code.{protected, positions, withHamming};
 ghost use Rattle.linecode.specs.Reading.{markOf};
 
 // A line as it reads alone, and its mark: 0 correct as found, 1 accepted and rewritten somewhere, 4 faulty.
@@ -17,7 +17,7 @@ pub struct Reading {
 // 1, since they are written afresh. Public for the crates that read.
 pub fn mark_of(line: [u8; 70], sum: u16) -> u8
     requires { ⌜ sum ≡ columnSum positions (protected (places line)) ⌝ }
-    ensures { λ r. ⌜ r ≡ markOf (places line) ⌝ }
+    ensures { λ r. ⌜ r ≡ markOf (places line) (withHamming (protected (places line))) ⌝ }
 {
     if hamming::stored(line) == sum {
         return 0;

@@ -20,7 +20,8 @@ use Rattle.gf2.proofs.Crc.{divisible-crc}
 use Rattle.gf2.proofs.Weight.{distance-self, distance-zero, length-flip, flip-flip, distance-flip, one-flip, OneFlip, take-flip, flip-past}
 use Rattle.linecode.specs.Places.{dataPlaces, protectedPlaces, linePlaces, bitsOf, places, lineOf}
 use Rattle.linecode.specs.Code.{protected, accepted, withHamming, codeword, Correct, positions, columns, syndrome, answerTo}
-use Rattle.linecode.specs.Reading.{Read, acceptedAs, faulty, afterFlip, corrected, firstLook, markOf, readAlone, readBefore}
+use Rattle.linecode.specs.Reading.{Read, acceptedAs, faulty, afterFlip, corrected, firstLook, markOf, readAlone}
+use Rattle.linecode.specs.Before.{acceptedBefore, correctedBefore, readBefore}
 use Rattle.linecode.specs.Entry.{written, reading}
 use Rattle.promises.specs.Promises.{ReadsAs, Promises}
 use Rattle.linecode.specs.declared.alone.Reading.{Reading}
@@ -40,10 +41,9 @@ holds : (b : Bool) → b ≡ true → T b
 holds true e = tt
 holds false e = absurd (true≢false (sym e))
 
--- ---- the mark at the first look
-marked : (w : Word) → markOf w ≤ 1
-unfolding markOf
-marked w = go (same w (withHamming (protected w)))
+-- ---- the mark of an accepted line
+marked : (found fresh : Word) → markOf found fresh ≤ 1
+marked found fresh = go (same found fresh)
   where
     go : (b : Bool) → cond b 0 1 ≤ 1
     go true = omega arith
@@ -51,10 +51,10 @@ marked w = go (same w (withHamming (protected w)))
 
 -- ---- what a reading is, by the ways out of it
 module _ (found : Word) where
-  -- accepted with a mark of at most 1, as a line at most one place away; or faulty, as found
+  -- accepted, as a line at most one place away; or faulty, as found
   Read-cases : Type 0
   Read-cases =
-      ((x : Word) × (m : ℕ) × (readAlone found ≡ acceptedAs m x) × (m ≤ 1) × T (accepted x) × (length x ≡ length found)
+      ((x : Word) × (readAlone found ≡ acceptedAs found (withHamming (protected x))) × T (accepted x) × (length x ≡ length found)
       × ((w : Word) → distance w x ≤ suc (distance w found)))
       ⊎ (readAlone found ≡ faulty found)
 
@@ -69,7 +69,7 @@ module _ (found : Word) where
     where
       second : (i : ℕ) (t : Bool) → accepted found ≡ false → answerTo (syndrome found) ≡ Protected i → accepted (flip i found) ≡ t → Read-cases
       second i true e n s =
-          inl (flip i found, 1, read-flip found i true e n s, omega arith, holds (accepted (flip i found)) s, length-flip i found, closer i)
+          inl (flip i found, read-flip found i true e n s, holds (accepted (flip i found)) s, length-flip i found, closer i)
       second i false e n s = inr (read-flip found i false e n s)
 
       answered : (a : Answer) → accepted found ≡ false → answerTo (syndrome found) ≡ a → Read-cases
@@ -78,15 +78,14 @@ module _ (found : Word) where
       answered (Protected i) e n = second i (accepted (flip i found)) e n refl
 
       first : (b : Bool) → accepted found ≡ b → Read-cases
-      first true e = inl (found, markOf found, read-clean found e, marked found, holds (accepted found) e, refl, λ w. omega arith)
+      first true e = inl (found, read-clean found e, holds (accepted found) e, refl, λ w. omega arith)
       first false e = answered (answerTo (syndrome found)) e refl
 
-reads-as : (w found x : Word) (m : ℕ) → readAlone found ≡ acceptedAs m x → m ≤ 1 → withHamming (protected x) ≡ w
-    → ReadsAs w (readAlone found)
-reads-as w found x m e h g =
+reads-as : (w found fresh : Word) → readAlone found ≡ acceptedAs found fresh → fresh ≡ w → ReadsAs w (readAlone found)
+reads-as w found fresh e g =
     record {
       gives = ap (λ (r : Read). r .word) e ∙ g;
-      accepted = subst (λ (n : ℕ). n ≤ 1) (sym (ap (λ (r : Read). r .mark) e)) h;
+      accepted = subst (λ (n : ℕ). n ≤ 1) (sym (ap (λ (r : Read). r .mark) e)) (marked found fresh);
     }
 
 detects : (w found : Word) → Correct w → length found ≡ linePlaces → distance w found ≤ 6
@@ -96,8 +95,8 @@ detects w found c e d = go (read-cases found)
   where
     go : Read-cases found → ReadsAs w (readAlone found) ⊎ (readAlone found .mark ≡ 4)
     go (inl p) =
-        let within : distance w (p .0) ≤ 7 = omega (arith, p .6 w) in
-        inl (reads-as w found (p .0) (p .1) (p .2) (p .3) (near w (p .0) c (p .5 ∙ e) within (p .4)))
+        let within : distance w (p .0) ≤ 7 = omega (arith, p .4 w) in
+        inl (reads-as w found _ (p .1) (near w (p .0) c (p .3 ∙ e) within (p .2)))
     go (inr q) = inr (ap (λ (r : Read). r .mark) q)
 
 kept : (found : Word) → readAlone found .mark ≡ 4 → readAlone found .word ≡ found
@@ -106,8 +105,8 @@ kept found m = go (read-cases found)
   where
     go : Read-cases found → readAlone found .word ≡ found
     go (inl p) =
-        let four : p .1 ≡ 4 = sym (ap (λ (r : Read). r .mark) (p .2)) ∙ m in
-        let z : ⊥ = omega (arith, p .3) in
+        let four : markOf found (withHamming (protected (p .0))) ≡ 4 = sym (ap (λ (r : Read). r .mark) (p .1)) ∙ m in
+        let z : ⊥ = omega (arith, marked found (withHamming (protected (p .0)))) in
         absurd z
     go (inr q) = ap (λ (r : Read). r .word) q
 
@@ -119,8 +118,8 @@ sound found e = go (read-cases found)
     go : Read-cases found → (readAlone found .mark ≡ 4) ⊎ ((readAlone found .mark ≤ 1) × Correct (readAlone found .word))
     go (inl p) =
         inr (
-          subst (λ (n : ℕ). n ≤ 1) (sym (ap (λ (r : Read). r .mark) (p .2))) (p .3),
-          subst Correct (sym (ap (λ (r : Read). r .word) (p .2))) (accepted-correct (p .0) (p .5 ∙ e) (p .4)),
+          subst (λ (n : ℕ). n ≤ 1) (sym (ap (λ (r : Read). r .mark) (p .1))) (marked found (withHamming (protected (p .0)))),
+          subst Correct (sym (ap (λ (r : Read). r .word) (p .1))) (accepted-correct (p .0) (p .3 ∙ e) (p .2)),
         )
     go (inr q) = inl (ap (λ (r : Read). r .mark) q)
 
@@ -129,7 +128,7 @@ unfolding Read-cases
 marks found = go (read-cases found)
   where
     go : Read-cases found → (readAlone found .mark ≤ 1) ⊎ (readAlone found .mark ≡ 4)
-    go (inl p) = inl (subst (λ (n : ℕ). n ≤ 1) (sym (ap (λ (r : Read). r .mark) (p .2))) (p .3))
+    go (inl p) = inl (subst (λ (n : ℕ). n ≤ 1) (sym (ap (λ (r : Read). r .mark) (p .1))) (marked found (withHamming (protected (p .0)))))
     go (inr q) = inr (ap (λ (r : Read). r .mark) q)
 
 -- ---- one damaged place
@@ -140,9 +139,7 @@ module _ (w : Word) (c : Correct w) where
   -- at a protected place the syndrome names it, and the flip gives the line back
   flipped : (i : ℕ) → i < 543 → accepted (flip i w) ≡ false → ReadsAs w (readAlone (flip i w))
   flipped i h e =
-      reads-as w (flip i w) (flip i (flip i w)) 1
-      (read-flip (flip i w) i true e names (ap accepted (flip-flip i w) ∙ correct-accepted w c))
-      (omega arith)
+      reads-as w (flip i w) _ (read-flip (flip i w) i true e names (ap accepted (flip-flip i w) ∙ correct-accepted w c))
       (ap (λ (x : Word). withHamming (protected x)) (flip-flip i w) ∙ correct-rewritten w c)
     where
       names : answerTo (syndrome (flip i w)) ≡ Protected i
@@ -172,42 +169,32 @@ corrects w found c e d = go (accepted found) refl
 
     go : (b : Bool) → accepted found ≡ b → ReadsAs w (readAlone found)
     go true f =
-        reads-as w found found (markOf found) (read-clean found f) (marked found) (near w found c e (omega arith) (holds (accepted found) f))
+        reads-as w found _ (read-clean found f) (near w found c e (omega arith) (holds (accepted found) f))
     go false f =
         missed f (one-flip found w (e ∙ sym (correct-length w c)) (subst (λ (n : ℕ). n ≤ 1) (ap weight (xor-comm w found)) d))
 
 -- ---- marks 0 and 1
 -- a correct line reads as itself with mark 0
 read-correct : (w : Word) → Correct w → readAlone w ≡ record { word = w; mark = 0 }
-unfolding markOf
 read-correct w c =
     read-clean w (correct-accepted w c)
-    ∙ ap (λ (x : Word). record { word = x; mark = cond (same w x) 0 1 }) (correct-rewritten w c)
+    ∙ ap (acceptedAs w) (correct-rewritten w c)
     ∙ ap (λ (b : Bool). record { word = w; mark = cond b 0 1 }) (same-refl w)
 
--- what is read with mark 0 is a correct line
+-- what is read with mark 0 is the line found, and a correct line
 clean-only : (found : Word) → length found ≡ linePlaces → readAlone found .mark ≡ 0 → Correct found
-unfolding readAlone markOf
-clean-only found e m = first (accepted found) refl m
+unfolding Read-cases
+clean-only found e m = go (read-cases found)
   where
-    untouched : (b : Bool) → same found (withHamming (protected found)) ≡ b → T (accepted found)
-        → _≡_ {A = ℕ} (cond b 0 1) 0 → Correct found
-    untouched true s t m =
-        subst Correct (sym (same-equal found (withHamming (protected found)) (holds _ s))) (accepted-correct found e t)
-    untouched false s t m = let z : ⊥ = omega arith in absurd z
+    as-found : (x : Word) (b : Bool) → same found x ≡ b → _≡_ {A = ℕ} (cond b 0 1) 0 → Correct x → Correct found
+    as-found x true s z c = subst Correct (sym (same-equal found x (holds _ s))) c
+    as-found x false s z c = let z : ⊥ = omega arith in absurd z
 
-    second : (b : Bool) (x : Word) → afterFlip b x found .mark ≡ 0 → Correct found
-    second true x m = let z : ⊥ = omega arith in absurd z
-    second false x m = let z : ⊥ = omega arith in absurd z
-
-    answered : (a : Answer) → corrected a found .mark ≡ 0 → Correct found
-    answered None m = let z : ⊥ = omega arith in absurd z
-    answered (Hamming k) m = let z : ⊥ = omega arith in absurd z
-    answered (Protected i) m = second (accepted (flip i found)) (flip i found) m
-
-    first : (b : Bool) → accepted found ≡ b → firstLook (markOf found) b found .mark ≡ 0 → Correct found
-    first true a m = untouched _ refl (holds (accepted found) a) m
-    first false a m = answered (answerTo (syndrome found)) m
+    go : Read-cases found → Correct found
+    go (inl p) =
+        as-found (withHamming (protected (p .0))) _ refl (sym (ap (λ (r : Read). r .mark) (p .1)) ∙ m)
+        (accepted-correct (p .0) (p .3 ∙ e) (p .2))
+    go (inr q) = let four : readAlone found .mark ≡ 4 = ap (λ (r : Read). r .mark) q in let z : ⊥ = omega arith in absurd z
 
 clean : (found : Word) → length found ≡ linePlaces → (readAlone found .mark ≡ 0) ↔ Correct found
 clean found e = (clean-only found e, λ c. ap (λ (r : Read). r .mark) (read-correct found c))
@@ -245,16 +232,27 @@ rewritten found e = (λ m. (λ four. omega arith, differs m (sound found e)), λ
             absurd z
 
 before : (found : Word) → (readBefore found .word ≡ readAlone found .word)
-    × ((readBefore found .mark ≡ readAlone found .mark) ⊎ ((readBefore found .mark ≡ 0) × (readAlone found .mark ≡ 1)))
-unfolding readBefore readAlone markOf
-before found = go (accepted found) (same found (withHamming (protected found)))
+    × ((readBefore found .mark ≡ readAlone found .mark) ⊎ ((readBefore found .mark ≤ 1) × (readAlone found .mark ≤ 1)))
+unfolding readBefore readAlone
+before found = first (accepted found)
   where
-    go : (b s : Bool) → let then = firstLook 0 b found in
-        let now = firstLook (cond s 0 1) b found in
-        (then .word ≡ now .word) × ((then .mark ≡ now .mark) ⊎ ((then .mark ≡ 0) × (now .mark ≡ 1)))
-    go true true = (refl, inl refl)
-    go true false = (refl, inr (refl, refl))
-    go false s = (refl, inl refl)
+    Alike : Read → Read → Type 0
+    Alike r s = (r .word ≡ s .word) × ((r .mark ≡ s .mark) ⊎ ((r .mark ≤ 1) × (s .mark ≤ 1)))
+
+    second : (i : ℕ) (b : Bool)
+        → Alike (cond b (acceptedBefore 1 (flip i found)) (faulty found)) (afterFlip b (flip i found) found)
+    second i true = (refl, inr (omega arith, marked found _))
+    second i false = (refl, inl refl)
+
+    answered : (a : Answer) → Alike (correctedBefore a found) (corrected a found)
+    answered None = (refl, inl refl)
+    answered (Hamming k) = (refl, inl refl)
+    answered (Protected i) = second i (accepted (flip i found))
+
+    first : (b : Bool)
+        → Alike (cond b (acceptedBefore 0 found) (correctedBefore (answerTo (syndrome found)) found)) (firstLook b found)
+    first true = (refl, inr (omega arith, marked found _))
+    first false = answered (answerTo (syndrome found))
 
 -- ---- writing and reading in bytes
 writes : (payload : List ℕ) → length payload ≡ 64

@@ -11,7 +11,8 @@ use Rattle.gf2.specs.Check.{bit, divisible, crc}
 use Rattle.gf2.specs.Generator.{generator}
 use Rattle.linecode.specs.Places.{linePlaces, lineBytes, bitsOf, loaded, places, lineOf, xorBytes}
 use Rattle.linecode.specs.Code.{dataOf, codeword, Correct, isCorrect, columns, answerTo, syndromeOf, placeOf}
-use Rattle.linecode.specs.Reading.{Read, readAlone, readBefore}
+use Rattle.linecode.specs.Reading.{Read, readAlone}
+use Rattle.linecode.specs.Before.{readBefore}
 use Rattle.linecode.specs.Entry.{written, reading}
 use Rattle.linecode.specs.declared.alone.Reading.{Reading}
 use Rattle.linecode.specs.declared.hamming.Answer.{Answer}
@@ -75,9 +76,9 @@ pub record Promises : Type 0 where
   -- mark 1 exactly if it is accepted and the line read differs from the line found in some place
   pub rewritten : (found : Word) → length found ≡ linePlaces
       → (readAlone found .mark ≡ 1) ↔ ((readAlone found .mark ≡ 4 → ⊥) × (1 ≤ distance found (readAlone found .word)))
-  -- before request Q-1 a line was read alike; its mark is the same, or was 0 and is 1
+  -- before request Q-1 a line was read alike; its mark is the same, or was and is one of an accepted line
   pub before : (found : Word) → (readBefore found .word ≡ readAlone found .word)
-      × ((readBefore found .mark ≡ readAlone found .mark) ⊎ ((readBefore found .mark ≡ 0) × (readAlone found .mark ≡ 1)))
+      × ((readBefore found .mark ≡ readAlone found .mark) ⊎ ((readBefore found .mark ≤ 1) × (readAlone found .mark ≤ 1)))
   -- the test passes the correct lines, and no other
   pub tests : (w : Word) → (isCorrect w ≡ true) ↔ Correct w
   -- a line written is correct, and reads as itself with mark 0

@@ -1,11 +1,10 @@
 -- The line code as the layer that repair sees. No other file above it opens reading, writing or the test of a correct line: each law
 -- here goes from what the functions below give, in bytes, to line n, or to a group's parity line.
 use mathlib.Core.Path.{_≡_, refl, sym, ap, _∙_, subst}
-use mathlib.Core.Logic.{_⊎_, inl, inr, ⊎-elim}
+use mathlib.Core.Logic.{_⊎_, inl, inr}
 use mathlib.Core.Bool.{true}
 use mathlib.Core.List.{List}
 use Prim.Native.Nat.{ℕ, suc-le-suc}
-use native.Mathlib.Omega.{arith}
 use lib.ListN.{length}
 use Rattle.gf2.specs.Word.{Word}
 use Rattle.linecode.specs.Places.{linePlaces, dataBytes, places, lineOf, loaded}
@@ -57,11 +56,7 @@ marks-tell address found e = record { clean = promises .clean found e; rewritten
 -- before request Q-1 it read alike, but for the mark of an accepted line
 pub as-before : (address : ℕ) (found : Word) → SameButMark (readUnderBefore address found) (readUnder address found)
 unfolding readUnder readUnderBefore
-as-before address found =
-    record {
-      line = promises .before found .0;
-      mark = ⊎-elim inl (λ p. inr (omega (arith, p .0), omega (arith, p .1))) (promises .before found .1);
-    }
+as-before address found = record { line = promises .before found .0; mark = promises .before found .1 }
 
 -- ---- reading: bytes that are read as line n
 pub read-as : (n : ℕ) (line : List ℕ) → reading line ≡ inBytes (readLine lineLayer n (places line))

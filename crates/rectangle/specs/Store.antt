@@ -6,7 +6,8 @@ use lib.ListN.{take, drop}
 use Rattle.gf2.specs.Word.{Word}
 use Rattle.linecode.specs.Places.{linePlaces, lineBytes, bitsOf, places, lineOf}
 use Rattle.linecode.specs.Code.{upFrom, codeword, Correct, isCorrect}
-use Rattle.linecode.specs.Reading.{readAlone, readBefore}
+use Rattle.linecode.specs.Reading.{readAlone}
+use Rattle.linecode.specs.Before.{readBefore}
 use Rattle.linecode.specs.declared.alone.Reading as Given
 use Rattle.scheme.specs.Layer.{Reading, Layer, Cell, readLine}
 use Rattle.scheme.specs.Visit.{Group}

@@ -8,7 +8,7 @@ use lib.Dec.{T, eqb}
 use Rattle.gf2.specs.Generator.{generator, generatorPolynomial}
 use Rattle.linecode.specs.Places.{dataPlaces, protectedPlaces, hammingPlaces, linePlaces, lineBytes, places, lineOf}
 use Rattle.linecode.specs.Code.{protected, dataOf, accepted, hammingColumns, positions, hamming, withCrc, withHamming, codeword, isCorrect, columns, syndrome, naming, answerTo}
-use Rattle.linecode.specs.Reading.{markOf, readAlone}
+use Rattle.linecode.specs.Reading.{readAlone}
 use Rattle.scheme.specs.Repair.{passesFrom, repair, answer}
 use Rattle.rectangle.specs.Store.{readUnder, isCorrectUnder, bytesAt, placesAt, linesIn, row, column, groups}
 use Rattle.rectangle.specs.Refusals.{sideFits, sidesFit, holds, tablesFit, parityCorrect, repairRefusal}
@@ -33,5 +33,5 @@ same-bytes (a ∷ x) (b ∷ y) t = go (eqb a b) refl t (same-bytes x y)
     go false e t rest = absurd t
 
 pub zero-store-report : ZeroStoreReport
-unfolding generator generatorPolynomial dataPlaces protectedPlaces hammingPlaces linePlaces lineBytes places lineOf protected dataOf accepted hammingColumns positions hamming withCrc withHamming codeword isCorrect columns syndrome naming answerTo markOf readAlone passesFrom repair answer readUnder isCorrectUnder bytesAt placesAt linesIn row column groups sideFits sidesFit holds tablesFit parityCorrect repairRefusal repaired handedOver repairStore numberAt headerBytes linesPart rowTablePart columnTablePart fileLength entry header bytesIn rowsIn columnsIn sidesWithin entryIs entriesFit contentsFit openRefusal opened countOf countsOf noCounts decimal spaced line storeLine countLines linesAbove handsOver reportText refusedWith repairOpened counted checkStore
+unfolding generator generatorPolynomial dataPlaces protectedPlaces hammingPlaces linePlaces lineBytes places lineOf protected dataOf accepted hammingColumns positions hamming withCrc withHamming codeword isCorrect columns syndrome naming answerTo readAlone passesFrom repair answer readUnder isCorrectUnder bytesAt placesAt linesIn row column groups sideFits sidesFit holds tablesFit parityCorrect repairRefusal repaired handedOver repairStore numberAt headerBytes linesPart rowTablePart columnTablePart fileLength entry header bytesIn rowsIn columnsIn sidesWithin entryIs entriesFit contentsFit openRefusal opened countOf countsOf noCounts decimal spaced line storeLine countLines linesAbove handsOver reportText refusedWith repairOpened counted checkStore
 zero-store-report = same-bytes _ _ tt

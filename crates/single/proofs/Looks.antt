@@ -11,6 +11,7 @@ use lib.ListN.{length, take}
 use Rattle.gf2.specs.Word.{Word, digits, number}
 use Rattle.gf2.specs.Check.{columnSum}
 use Rattle.gf2.proofs.Digits.{digits-number}
+use Rattle.gf2.proofs.Weight.{length-flip}
 use Rattle.register.proofs.Slicing.{length-generator}
 use Rattle.linecode.specs.Places.{bitsOf, places, lineOf}
 use Rattle.linecode.specs.Code.{protected, dataOf, storedCrc, storedHamming, accepted, positions, withHamming, codeword, syndrome, answerTo}
@@ -27,12 +28,13 @@ use Rattle.linecode.proofs.ReadAlone.{read-clean, in-bytes}
 use Rattle.single.specs.Corrector.{corrector}
 
 -- an accepted line reads as the codeword of its data
-pub accepted-reading : (l : List ℕ) → length l ≡ 70 → accepted (places l) ≡ true
-    → _≡_ {A = Reading} (record { line = lineOf (codeword (dataOf (places l))); mark = markOf (places l) }) (reading l)
+pub accepted-reading : (l : List ℕ) (m : ℕ) → length l ≡ 70 → accepted (places l) ≡ true
+    → m ≡ markOf (places l) (withHamming (protected (places l)))
+    → _≡_ {A = Reading} (record { line = lineOf (codeword (dataOf (places l))); mark = m }) (reading l)
 unfolding codeword
-accepted-reading l e a =
-    ap (λ (p : Word). record { line = lineOf (withHamming p); mark = markOf (places l) })
-    (sym (accepted-written (places l) (length-places l e) (subst T (sym a) tt)))
+accepted-reading l m e a f =
+    ap₂ (λ (p : Word) (k : ℕ). record { line = lineOf (withHamming p); mark = k })
+    (sym (accepted-written (places l) (length-places l e) (subst T (sym a) tt))) f
     ∙ in-bytes l _ (read-clean (places l) a)
 
 -- where no protected place is named, the enum's tags 0 and 1, the corrector does nothing
@@ -41,12 +43,17 @@ unnamed None w k = refl
 unnamed (Hamming i) w k = refl
 unnamed (Protected i) w k = absurd (miss (0 ∷ 1 ∷ []) 2 tt k)
 
+pub length-corrector : (a : Answer) (w : Word) → length (corrector a w) ≡ length w
+length-corrector None w = refl
+length-corrector (Hamming i) w = refl
+length-corrector (Protected i) w = length-flip i w
+
 -- after the corrector the second look decides: where nothing was flipped, it finds what the first did
 pub second-look : (w turned : Word) (s : ℕ) (t : Bool) → accepted w ≡ false → s ≡ syndrome w → turned ≡ corrector (answerTo s) w
     → accepted turned ≡ t → readAlone w ≡ afterFlip t turned w
 unfolding readAlone
 second-look w turned s t e f g h =
-    ap (λ (b : Bool). firstLook (markOf w) b w) e
+    ap (λ (b : Bool). firstLook b w) e
     ∙ ap (λ (n : ℕ). corrected (answerTo n) w) (sym f)
     ∙ go (answerTo s)
     ∙ ap (λ (x : Word). afterFlip (accepted x) x w) (sym g)

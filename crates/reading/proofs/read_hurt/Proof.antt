@@ -6,13 +6,14 @@ use mathlib.Core.List.{List}
 use Prim.Native.Nat.{ℕ}
 use native.Mathlib.Omega.{arith}
 use lib.Bits.{bitXor}
+use lib.ListN.{length}
 use Rattle.linecode.specs.Places.{places}
 use Rattle.linecode.specs.Code.{accepted, syndrome, answerTo}
 use Rattle.linecode.specs.Reading.{afterFlip, readAlone}
 use Rattle.linecode.proofs.Bytes.{array-length}
-use Rattle.linecode.proofs.Line.{length-places}
+use Rattle.linecode.proofs.Line.{length-places, length-lineOf}
 use Rattle.linecode.proofs.Syndrome.{syndrome-parts}
-use Rattle.linecode.proofs.ReadAlone.{unnamed, second-look, in-bytes}
+use Rattle.linecode.proofs.ReadAlone.{unnamed, second-look, mark-flipped, in-bytes}
 use Rattle.reading.proofs.Telling.{lower-half, below, above}
 use Rattle.reading.proofs.read_hurt.Statement.{statement}
 use Rattle.reading.proofs.read_hurt.Tie as tie
@@ -73,8 +74,13 @@ with-bits-requires c κs = lower-half _ _ (c .before .sums-of .ensures)
 returns-2 : tie.Need-returns-2
 returns-2 c =
     let again = c .before .before in
-    ap (λ (x : List ℕ). record { line = x; mark = 1 }) (c .with-bits .ensures)
-    ∙ in-bytes _ _ (looked again true (below _ _ (again .sums-of .ensures) (c .before .if1 .taken) .0))
+    let start = again .before .before .before .before .before .before .before in
+    let f = again .before .flip-place .result in
+    let accepted-now = below _ _ (again .sums-of .ensures) (c .before .if1 .taken) .0 in
+    let whole : length f ≡ 70 = ap length (again .before .flip-place .ensures) ∙ length-lineOf _ in
+    ap₂ (λ (x : List ℕ) (m : ℕ). record { line = x; mark = m }) (c .with-bits .ensures)
+    (sym (mark-flipped (places (start .args .line)) (places f) (length-places f whole) (start .pre .1 .0) accepted-now))
+    ∙ in-bytes _ _ (looked again true accepted-now)
 
 clear-spare-requires-2 : tie.Need-clear-spare-requires-2
 clear-spare-requires-2 c κs = search needs

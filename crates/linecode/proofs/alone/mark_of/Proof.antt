@@ -5,6 +5,7 @@ use borrow.Author.Needs.{needs}
 use borrow.Author.Tests.{eq-eqb, ne-eqb}
 use lib.Dec.{eqb}
 use Rattle.linecode.specs.Places.{places}
+use Rattle.linecode.specs.Code.{protected, withHamming}
 use Rattle.linecode.specs.Reading.{markOf}
 use Rattle.linecode.proofs.Bytes.{array-length}
 use Rattle.linecode.proofs.Line.{length-places}
@@ -16,7 +17,7 @@ stored-requires : tie.Need-stored-requires
 stored-requires c κs = search needs
 
 compared : (c : tie.After-stored) (b : Bool) → eqb (c .before .args .sum) (c .stored .result) ≡ b
-    → cond b 0 1 ≡ markOf (places (c .before .args .line))
+    → let w = places (c .before .args .line) in cond b 0 1 ≡ markOf w (withHamming (protected w))
 compared c b e =
     let start = c .before in
     let l = start .args .line in

@@ -5,17 +5,19 @@ use mathlib.Core.Path.{_≡_, sym, ap, ap₂, _∙_}
 use mathlib.Core.Bool.{Bool, true, false}
 use mathlib.Core.List.{List, _++_}
 use Prim.Native.Nat.{ℕ}
+use lib.Bits.{bitXor}
 use lib.Dec.{eqb}
-use lib.ListN.{take}
+use lib.ListN.{length, take}
 use Rattle.gf2.specs.Word.{digits}
 use Rattle.gf2.specs.Check.{columnSum}
 use Rattle.linecode.specs.Places.{bitsOf, places}
-use Rattle.linecode.specs.Code.{accepted, positions}
-use Rattle.linecode.specs.Reading.{acceptedAs, faulty, afterFlip, readAlone}
+use Rattle.linecode.specs.Code.{accepted, positions, answerTo}
+use Rattle.linecode.specs.Reading.{faulty, afterFlip, readAlone}
 use Rattle.linecode.proofs.Bytes.{array-length}
+use Rattle.linecode.proofs.Line.{length-places}
 use Rattle.linecode.proofs.Codeword.{crc-agrees}
-use Rattle.linecode.proofs.ReadAlone.{in-bytes}
-use Rattle.single.proofs.Looks.{accepted-reading, protected-sum, held-syndrome, second-look}
+use Rattle.linecode.proofs.ReadAlone.{mark-flipped, in-bytes}
+use Rattle.single.proofs.Looks.{accepted-reading, length-corrector, protected-sum, held-syndrome, second-look}
 use Rattle.single.proofs.alone.read_line.Statement.{statement}
 use Rattle.single.proofs.alone.read_line.Tie as tie
 
@@ -59,8 +61,9 @@ returns c =
     let summed = written .before .before in
     let start = summed .before .before .before in
     let l = start .args .line in
-    ap₂ (λ (x : List ℕ) (m : ℕ). record { line = x; mark = m }) (written .with-checks .ensures) (c .mark-of .ensures)
-    ∙ accepted-reading l (array-length 70 l _ (start .good .0)) (sym (agreed summed) ∙ eq-eqb _ _ (written .before .if1 .taken))
+    ap (λ (x : List ℕ). record { line = x; mark = c .mark-of .result }) (written .with-checks .ensures)
+    ∙ accepted-reading l _ (array-length 70 l _ (start .good .0)) (sym (agreed summed) ∙ eq-eqb _ _ (written .before .if1 .taken))
+    (c .mark-of .ensures)
 
 stored-requires-2 : tie.Need-stored-requires-2
 stored-requires-2 c κs = search needs
@@ -72,6 +75,11 @@ agrees-requires : tie.Need-agrees-requires
 agrees-requires c κs = search needs
 
 -- the corrector, and the second look
+not-accepted : (c : tie.After-corrected) → accepted (places (c .before .before .before .before .before .before .args .line)) ≡ false
+not-accepted c =
+    let left = c .before .before in
+    sym (agreed (left .before)) ∙ ne-eqb _ _ (left .if1 .left)
+
 looked : (c : tie.After-agrees) (t : Bool) → c .agrees .result ≡ t
     → let l = c .before .before .before .before .before .before .before .args .line in
     readAlone (places l) ≡ afterFlip t (places (c .before .corrected .result)) (places l)
@@ -82,7 +90,7 @@ looked c t e =
     let l = start .args .line in
     let whole = array-length 70 l _ (start .good .0) in
     second-look (places l) (places (c .before .corrected .result)) _ t
-    (sym (agreed summed) ∙ ne-eqb _ _ (held .before .if1 .left))
+    (not-accepted (c .before))
     (held-syndrome l whole (summed .before .stored .result) (summed .before .stored .ensures) (summed .sum-with .result) (held .stored2 .result) (summed .sum-with .ensures) (held .stored2 .ensures))
     (c .before .corrected .ensures)
     (sym (c .agrees .ensures) ∙ e)
@@ -93,9 +101,18 @@ append-requires c κs = search needs
 returns-2 : tie.Need-returns-2
 returns-2 c =
     let second = c .before .before in
-    let turned = places (second .before .corrected .result) in
-    ap (λ (x : List ℕ). record { line = x; mark = 1 }) (c .append .ensures)
-    ∙ in-bytes _ (acceptedAs 1 turned) (looked second true (c .before .if2 .taken))
+    let turn = second .before in
+    let held = turn .before in
+    let summed = held .before .before in
+    let start = summed .before .before .before in
+    let l = start .args .line in
+    let whole =
+    ap length (turn .corrected .ensures)
+    ∙ length-corrector (answerTo (bitXor (summed .sum-with .result) (held .stored2 .result))) (places l)
+    ∙ length-places l (array-length 70 l _ (start .good .0)) in
+    ap₂ (λ (x : List ℕ) (m : ℕ). record { line = x; mark = m }) (c .append .ensures)
+    (sym (mark-flipped (places l) _ whole (not-accepted turn) (sym (second .agrees .ensures) ∙ c .before .if2 .taken)))
+    ∙ in-bytes _ _ (looked second true (c .before .if2 .taken))
 
 clear-spare-requires : tie.Need-clear-spare-requires
 clear-spare-requires c κs = search needs
