@@ -1,26 +1,25 @@
 -- Request Q-1: the marks tell what they say, and bytes, passes and answers are as before.
-use mathlib.Core.Path.{_≡_, refl, sym, ap, _∙_, subst}
+use mathlib.Core.Path.{_≡_, refl, ap, _∙_, subst}
 use mathlib.Core.Logic.{_⊎_, inl, inr}
-use mathlib.Core.Bool.{Bool, true, not}
-use mathlib.Core.List.{List, [], _∷_}
-use Prim.Native.Nat.{ℕ, suc, _*_, _≤_, _<_}
-use native.Mathlib.Nat.{suc-mul}
+use mathlib.Core.Bool.{true, not}
+use mathlib.Core.List.{List, []}
+use Prim.Native.Nat.{ℕ, _<_}
 use native.Mathlib.Omega.{arith}
 use borrow.Author.Tests.{eq-eqb, ne-eqb, eqb-false, not-true}
 use lib.ListN.{length, getD, List·getD-map}
-use Rattle.gf2.specs.Word.{Word, distance}
-use Rattle.linecode.specs.Places.{linePlaces, lineBytes, places, lineOf}
+use Rattle.gf2.specs.Word.{Word}
+use Rattle.linecode.specs.Places.{linePlaces, lineBytes, places}
 use Rattle.promises.proofs.LineLayout.{layout}
 use Rattle.scheme.specs.Layer.{Cell, Reading, readLine}
 use Rattle.scheme.specs.Visit.{Group, State, cellAt}
-use Rattle.scheme.specs.Repair.{Repaired, repair, linesOf, marksOf}
+use Rattle.scheme.specs.Repair.{Repaired, repair, marksOf}
 use Rattle.scheme.specs.Marks as Scheme
 use Rattle.scheme.specs.Readings.{SameRepair}
 use Rattle.scheme.proofs.Marking.{repair-marks-tell}
 use Rattle.scheme.proofs.Readings.{acceptedMarksDecideNothing}
 use Rattle.rectangle.specs.Store.{lineLayer, readUnderBefore, placesAt, linesIn, bufferOf, aloneAt, groups}
-use Rattle.rectangle.specs.Refusals.{acceptedAt, repairRefusal}
-use Rattle.rectangle.specs.Repair.{repaired, StoreRepaired, handsOver, handedOver}
+use Rattle.rectangle.specs.Refusals.{acceptedAt}
+use Rattle.rectangle.specs.Repair.{repaired, handsOver, handedOver}
 use Rattle.rectangle.proofs.Alone.{length-alone}
 use Rattle.rectangle.proofs.Buffer.{length-placesAt, linesIn-at}
 use Rattle.rectangle.proofs.LineLayer.{kept, marks-tell, as-before}

@@ -2,11 +2,11 @@
 use mathlib.Core.Path.{_≡_, refl, sym, ap, ap₂, _∙_, subst}
 use mathlib.Core.Bool.{Bool, true, false, _&&_}
 use mathlib.Core.List.{List, [], _∷_, _++_, append-assoc}
-use Prim.Native.Nat.{ℕ, zero, suc, _+_, _-_, _/_, _%_, _^_, _≤_, _<_}
+use Prim.Native.Nat.{ℕ, _+_, _-_, _/_, _%_, _^_, _<_}
 use native.Mathlib.Omega.{arith}
 use lib.Dec.{T, eqb}
 use lib.ListN.{length, take, drop, length-append, length-drop, take-append-drop}
-use lib.Seq.{length-take-le, take-take, take-at, drop-at, take-append-add, sets}
+use lib.Seq.{length-take-le, take-take, take-at, take-append-add, sets}
 use Rattle.gf2.specs.Word.{Word, digits, number, same}
 use Rattle.gf2.specs.Check.{divisible, crc, columnSum}
 use Rattle.gf2.specs.Generator.{generator}

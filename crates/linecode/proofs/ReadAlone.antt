@@ -59,7 +59,9 @@ mark-flipped w x whole e f = go (same w (withHamming (protected x))) refl
     go true s =
         absurd
         (true≢false
-        (sym f ∙ ap (divisible generator) (sym (protected-rewritten x whole) ∙ ap protected (sym (same-equal w _ (subst T (sym s) tt)))) ∙ e))
+        (sym f
+        ∙ ap (divisible generator) (sym (protected-rewritten x whole) ∙ ap protected (sym (same-equal w _ (subst T (sym s) tt))))
+        ∙ e))
     go false s = refl
 
 -- a reading's bytes and mark

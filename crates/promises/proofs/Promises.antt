@@ -1,8 +1,8 @@
 -- The promises of the line code are kept.
-use mathlib.Core.Path.{_≡_, refl, sym, ap, ap₂, _∙_, subst}
+use mathlib.Core.Path.{_≡_, refl, sym, ap, _∙_, subst}
 use mathlib.Core.Bool.{Bool, true, false, true≢false, cond}
 use mathlib.Core.Logic.{_⊎_, inl, inr, _↔_}
-use mathlib.Core.List.{List, [], _∷_, _++_}
+use mathlib.Core.List.{List, _++_}
 use Prim.Native.Nat.{ℕ, zero, suc, _+_, _*_, _≤_, _<_}
 use native.Mathlib.Nat.{le-of-suc-le-suc}
 use native.Mathlib.Decide.{decLt}
@@ -10,21 +10,19 @@ use native.Mathlib.Omega.{arith}
 use lib.Bits.{bitXor}
 use lib.Dec.{T}
 use lib.ListN.{length, getD, take}
-use Rattle.gf2.specs.Word.{Word, _⊕_, weight, distance, flip, same}
-use Rattle.gf2.specs.Check.{divisible, crc, columnSum}
+use Rattle.gf2.specs.Word.{Word, weight, distance, flip, same}
+use Rattle.gf2.specs.Check.{divisible, crc}
 use Rattle.gf2.specs.Generator.{generator}
 use Rattle.gf2.proofs.Xor.{xor-comm}
-use Rattle.gf2.proofs.Hamming.{columnSum-flip}
 use Rattle.gf2.proofs.Same.{same-refl, same-equal}
 use Rattle.gf2.proofs.Crc.{divisible-crc}
 use Rattle.gf2.proofs.Weight.{distance-self, distance-zero, length-flip, flip-flip, distance-flip, one-flip, OneFlip, take-flip, flip-past}
 use Rattle.linecode.specs.Places.{dataPlaces, protectedPlaces, linePlaces, bitsOf, places, lineOf}
-use Rattle.linecode.specs.Code.{protected, accepted, withHamming, codeword, Correct, positions, columns, syndrome, answerTo}
+use Rattle.linecode.specs.Code.{protected, accepted, withHamming, codeword, Correct, positions, syndrome, answerTo}
 use Rattle.linecode.specs.Reading.{Read, acceptedAs, faulty, afterFlip, corrected, firstLook, markOf, readAlone}
 use Rattle.linecode.specs.Before.{acceptedBefore, correctedBefore, readBefore}
 use Rattle.linecode.specs.Entry.{written, reading}
 use Rattle.promises.specs.Promises.{ReadsAs, Promises}
-use Rattle.linecode.specs.declared.alone.Reading.{Reading}
 use Rattle.linecode.specs.declared.hamming.Answer.{Answer}
 use Rattle.linecode.specs.declared.hamming.Answer.the-variants.{None, Hamming, Protected}
 use Rattle.linecode.proofs.Bytes.{length-bitsOf}

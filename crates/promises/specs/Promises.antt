@@ -14,8 +14,6 @@ use Rattle.linecode.specs.Code.{dataOf, codeword, Correct, isCorrect, columns, 
 use Rattle.linecode.specs.Reading.{Read, readAlone}
 use Rattle.linecode.specs.Before.{readBefore}
 use Rattle.linecode.specs.Entry.{written, reading}
-use Rattle.linecode.specs.declared.alone.Reading.{Reading}
-use Rattle.linecode.specs.declared.hamming.Answer.{Answer}
 use Rattle.linecode.specs.declared.hamming.Answer.the-variants.{None, Hamming}
 
 -- how a line's bytes and its places stand to one another

@@ -1,4 +1,5 @@
--- Document 01, "Sample damage": the starred samples in one table, place 543 with its mark of request Q-1; each row a claim that the definitions decide; and a table of other cases.
+-- Document 01, "Sample damage": the starred samples in one table, each row a claim that the definitions decide; the mark of place 543 is
+-- request Q-1's. And a table of other cases.
 use mathlib.Core.Bool.{Bool, true, false, _&&_}
 use mathlib.Core.List.{List, [], _∷_, _++_}
 use Prim.Native.Nat.{ℕ, _*_}
