@@ -9,7 +9,6 @@ use borrow.Author.Tests.{eq-eqb, ne-eqb, eqb-false, not-true}
 use lib.ListN.{length, getD, List·getD-map}
 use Rattle.gf2.specs.Word.{Word}
 use Rattle.linecode.specs.Places.{linePlaces, lineBytes, places}
-use Rattle.promises.proofs.LineLayout.{layout}
 use Rattle.scheme.specs.Layer.{Cell, Reading, readLine}
 use Rattle.scheme.specs.Visit.{Group, State, cellAt}
 use Rattle.scheme.specs.Repair.{Repaired, repair, marksOf}
@@ -24,6 +23,7 @@ use Rattle.rectangle.proofs.Alone.{length-alone}
 use Rattle.rectangle.proofs.Buffer.{length-placesAt, linesIn-at}
 use Rattle.rectangle.proofs.LineLayer.{kept, marks-tell, as-before}
 use Rattle.rectangle.proofs.Runs.{zero-or-not}
+use Rattle.rectangle.proofs.Spare.{places-lineOf}
 use Rattle.demands.specs.Demands.{Rectangle, count, repairOf}
 use Rattle.demands.specs.Marks.{MarkTells, MarksTellDamage, repairBefore, SameButMarks, RepairedAsBefore}
 use Rattle.demands.proofs.Refused.{refusal, runs, refused, handed}
@@ -64,7 +64,7 @@ module _ (r : Rectangle) (out marks : List ℕ) (over : handsOver (repairOf r ou
   unfolding cell end handedOver placesAt lineBytes
   line-is a =
       rw (handed r out marks over)
-      (ap places (line-handed (end r) n (within-end r n h)) ∙ layout .back (cell .line) long)
+      (ap places (line-handed (end r) n (within-end r n h)) ∙ places-lineOf (cell .line) long)
     where
       long : length (cell .line) ≡ linePlaces
       long =

@@ -65,7 +65,8 @@ module _ (found : Word) where
   unfolding Read-cases readAlone
   read-cases = first (accepted found) refl
     where
-      second : (i : ℕ) (t : Bool) → accepted found ≡ false → answerTo (syndrome found) ≡ Protected i → accepted (flip i found) ≡ t → Read-cases
+      second : (i : ℕ) (t : Bool) → accepted found ≡ false → answerTo (syndrome found) ≡ Protected i → accepted (flip i found) ≡ t
+          → Read-cases
       second i true e n s =
           inl (flip i found, read-flip found i true e n s, holds (accepted (flip i found)) s, length-flip i found, closer i)
       second i false e n s = inr (read-flip found i false e n s)
