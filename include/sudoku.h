@@ -94,7 +94,7 @@ enum sudoku_answer {
 /* Marks: what became of a line. Reading alone gives 0, 1 or 4. */
 enum sudoku_mark {
     SUDOKU_MARK_CLEAN = 0,     /* correct as found (its spare bits do not count) */
-    SUDOKU_MARK_REWRITTEN = 1, /* accepted, and rewritten: a bit of data or check was flipped, or Hamming bits were written afresh */
+    SUDOKU_MARK_REWRITTEN = 1, /* accepted, and rewritten: a bit of data or check was flipped, or Hamming bits were changed */
     SUDOKU_MARK_TRIAL = 2,     /* mended by trial: one bit was flipped where the line's row or column does not sum up */
     SUDOKU_MARK_REBUILT = 3,   /* rebuilt from the parity line and the other lines of its row or column */
     SUDOKU_MARK_FAULTY = 4     /* faulty: given as found, spare bits 0 */

@@ -1,22 +1,23 @@
 -- Request Q-1: the marks tell what they say, and bytes, passes and answers are as before.
-use mathlib.Core.Path.{_≡_, refl, ap, _∙_, subst}
+use mathlib.Core.Path.{_≡_, refl, sym, ap, _∙_, subst}
 use mathlib.Core.Logic.{_⊎_, inl, inr}
 use mathlib.Core.Bool.{true, not}
 use mathlib.Core.List.{List, []}
 use Prim.Native.Nat.{ℕ, _<_}
 use native.Mathlib.Omega.{arith}
 use borrow.Author.Tests.{eq-eqb, ne-eqb, eqb-false, not-true}
-use lib.ListN.{length, getD, List·getD-map}
+use lib.ListN.{length, getD, length-map, List·getD-map}
 use Rattle.gf2.specs.Word.{Word}
 use Rattle.linecode.specs.Places.{linePlaces, lineBytes, places}
-use Rattle.scheme.specs.Layer.{Cell, Reading, readLine}
+use Rattle.scheme.specs.Layer.{Cell, readLine}
 use Rattle.scheme.specs.Visit.{Group, State, cellAt}
-use Rattle.scheme.specs.Repair.{Repaired, repair, marksOf}
+use Rattle.scheme.specs.Repair.{Repaired, repair, linesOf, marksOf}
 use Rattle.scheme.specs.Marks as Scheme
 use Rattle.scheme.specs.Readings.{SameRepair}
 use Rattle.scheme.proofs.Marking.{repair-marks-tell}
-use Rattle.scheme.proofs.Readings.{acceptedMarksDecideNothing}
-use Rattle.rectangle.specs.Store.{lineLayer, readUnderBefore, placesAt, linesIn, bufferOf, aloneAt, groups}
+use Rattle.scheme.proofs.Readings.{same-faulty, acceptedMarksDecideNothing}
+use Rattle.rectangle.specs.Store.{lineLayer, placesAt, linesIn, bufferOf, aloneAt, groups}
+use Rattle.rectangle.specs.Before.{layerBefore}
 use Rattle.rectangle.specs.Refusals.{acceptedAt}
 use Rattle.rectangle.specs.Repair.{repaired, handsOver, handedOver}
 use Rattle.rectangle.proofs.Alone.{length-alone}
@@ -25,7 +26,7 @@ use Rattle.rectangle.proofs.LineLayer.{kept, marks-tell, as-before}
 use Rattle.rectangle.proofs.Runs.{zero-or-not}
 use Rattle.rectangle.proofs.Spare.{places-lineOf}
 use Rattle.demands.specs.Demands.{Rectangle, count, repairOf}
-use Rattle.demands.specs.Marks.{MarkTells, MarksTellDamage, repairBefore, SameButMarks, RepairedAsBefore}
+use Rattle.demands.specs.Marks.{MarkTells, MarksTellDamage, LinesReadAsBefore, repairBefore, SameButMarks, RepairedAsBefore}
 use Rattle.demands.proofs.Refused.{refusal, runs, refused, handed}
 use Rattle.demands.proofs.Handed.{gs, found, end, within, within-end, accepted-stays, line-handed, mark-handed, line-bytes}
 
@@ -89,6 +90,11 @@ pub marksTellDamage : MarksTellDamage
 marksTellDamage = mark-tells
 
 -- ---- as before
+pub linesReadAsBefore : LinesReadAsBefore
+unfolding aloneAt
+linesReadAsBefore lines n =
+    let same = as-before (lineLayer .address n) (placesAt lines n) in (same .line, same-faulty same)
+
 -- what the steps hand over, by two readings that agree
 mark-at : (s : State) (n : ℕ) → getD (marksOf s) n 0 ≡ cellAt s n .mark
 mark-at s n = List·getD-map (λ (c : Cell). c .mark) s n (record { line = []; mark = 0 })
@@ -100,21 +106,22 @@ same-handed gs one two same =
       answer = same .answers;
       passes = same .passes;
       lines = ap bufferOf (same .lines);
+      count = counted (one .cells) ∙ ap length (same .lines) ∙ sym (counted (two .cells));
       marks = λ n. rw (mark-at (one .cells) n, mark-at (two .cells) n) (same .marks n .mark);
     }
+  where
+    counted : (s : State) → length (marksOf s) ≡ length (linesOf s)
+    counted s = length-map s (λ (c : Cell). c .mark) ∙ sym (length-map s (λ (c : Cell). c .line))
 
 pub repairedAsBefore : RepairedAsBefore
 unfolding repairBefore refusal repaired
 repairedAsBefore r out marks = go (zero-or-not (refusal r out marks))
   where
-    before : Reading
-    before n found = readUnderBefore (lineLayer .address n) found
-
     go : (refusal r out marks ≡ 0) ⊎ (refusal r out marks ≡ 0 → ⊥) → SameButMarks (repairBefore r out marks) (repairOf r out marks)
     go (inl z) =
         rw (eq-eqb _ 0 z, runs r out marks z)
         (same-handed _ _ _
-        (acceptedMarksDecideNothing before (readLine lineLayer) (λ n. as-before (lineLayer .address n))
+        (acceptedMarksDecideNothing (readLine layerBefore) (readLine lineLayer) (λ n. as-before (lineLayer .address n))
         (groups (r .rows) (r .columns) (r .rowTable) (r .columnTable)) (linesIn (count r) (r .lines))))
     go (inr d) =
-        rw (ne-eqb _ 0 d, refused r out marks d) (record { answer = refl; passes = refl; lines = refl; marks = λ n. inl refl })
+        rw (ne-eqb _ 0 d, refused r out marks d) (record { answer = refl; passes = refl; lines = refl; count = refl; marks = λ n. inl refl })

@@ -1,3 +1,3 @@
--- What the customer demands, each sentence above its statement; then what the requests say of it.
+-- What the customer demands, each sentence above its statement; then what request Q-1 says of the marks.
 pub mod Demands
 pub mod Marks

@@ -5,11 +5,13 @@ use mathlib.Core.Bool.{true, cond}
 use mathlib.Core.List.{List}
 use Prim.Native.Nat.{ℕ, _≤_, _<_}
 use lib.Dec.{eqb}
-use lib.ListN.{getD}
+use lib.ListN.{length, getD}
 use Rattle.gf2.specs.Word.{distance}
-use Rattle.scheme.specs.Layer.{Reading, CorrectLine}
+use Rattle.scheme.specs.Layer.{CorrectLine, readLine}
+use Rattle.scheme.specs.Visit.{isFaulty}
 use Rattle.scheme.specs.Repair.{repair}
-use Rattle.rectangle.specs.Store.{lineLayer, readUnderBefore, placesAt, linesIn, groups}
+use Rattle.rectangle.specs.Store.{lineLayer, placesAt, linesIn, aloneAt, groups}
+use Rattle.rectangle.specs.Before.{layerBefore}
 use Rattle.rectangle.specs.Refusals.{acceptedAt, repairRefusal}
 use Rattle.rectangle.specs.Repair.{StoreRepaired, handsOver, handedOver}
 use Rattle.demands.specs.Demands.{Rectangle, count, repairOf}
@@ -28,20 +30,26 @@ MarksTellDamage =
     → (n : ℕ) → n < count r → MarkTells r (repairOf r out marks) n
 
 -- ---- "bytes, passes and answers are compared as before."
+-- a line reads alone as the same line, and is faulty where it was: making tables and changing a line take no more from a reading
+abbrev pub LinesReadAsBefore : Type 0
+LinesReadAsBefore =
+    (lines : List ℕ) (n : ℕ) → let before = readLine layerBefore n (placesAt lines n) in
+    (before .line ≡ aloneAt lines n .line) × (isFaulty before ≡ isFaulty (aloneAt lines n))
+
 -- repair with the reading of before
 unfoldable pub repairBefore : Rectangle → List ℕ → List ℕ → StoreRepaired
 repairBefore r out marks =
     let refusal = repairRefusal (r .rows) (r .columns) (r .lines) (r .rowTable) (r .columnTable) out marks in
     let gs = groups (r .rows) (r .columns) (r .rowTable) (r .columnTable) in
-    let read : Reading = λ n found. readUnderBefore (lineLayer .address n) found in
-    cond (eqb refusal 0) (handedOver gs (repair read gs (linesIn (count r) (r .lines))))
+    cond (eqb refusal 0) (handedOver gs (repair (readLine layerBefore) gs (linesIn (count r) (r .lines))))
     (record { answer = refusal; passes = 0; lines = out; marks = marks })
 
--- the same answer, passes and bytes of lines; a mark is the same, or was and is 0 or 1, so that marks 2, 3 and 4 are as before
+-- the same answer, passes and bytes of lines; as many marks, each the same, or 0 or 1 then and now, so that marks 2, 3 and 4 are as before
 pub record SameButMarks (before now : StoreRepaired) : Type 0 where
   pub answer : before .answer ≡ now .answer
   pub passes : before .passes ≡ now .passes
   pub lines : before .lines ≡ now .lines
+  pub count : length (before .marks) ≡ length (now .marks)
   pub marks : (n : ℕ) → (getD (before .marks) n 0 ≡ getD (now .marks) n 0)
       ⊎ ((getD (before .marks) n 0 ≤ 1) × (getD (now .marks) n 0 ≤ 1))
 

@@ -25,9 +25,9 @@ use Rattle.linecode.proofs.Line.{places-is, places-lineOf, length-place
 use Rattle.linecode.proofs.Codeword.{rewritten-same, protected-rewritten}
 
 module _ (w : Word) where
-  pub read-clean : accepted w ≡ true → readAlone w ≡ acceptedAs w (withHamming (protected w))
+  pub read-accepted : accepted w ≡ true → readAlone w ≡ acceptedAs w (withHamming (protected w))
   unfolding readAlone
-  read-clean e = ap (λ (b : Bool). firstLook b w) e
+  read-accepted e = ap (λ (b : Bool). firstLook b w) e
 
   pub read-answer : (a : Answer) → accepted w ≡ false → answerTo (syndrome w) ≡ a → readAlone w ≡ corrected a w
   unfolding readAlone

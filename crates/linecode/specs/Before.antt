@@ -1,4 +1,4 @@
--- Reading alone as it was before request Q-1, for comparison alone: nothing goes by it. Mark 0 told that the protected word was
+-- Reading alone as it was before request Q-1, for comparison alone: no function goes by it. Mark 0 told that the protected word was
 -- untouched, mark 1 that a place was flipped.
 use mathlib.Core.Bool.{cond}
 use Prim.Native.Nat.{ℕ}

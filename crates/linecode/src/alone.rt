@@ -1,5 +1,5 @@
-// What reading a line alone gives (document 000, III-C). It stands here because the definitions name it; the functions that read stand
-// above, in the crates `single` and `reading`.
+// What reading a line alone gives (document 000, III-C), which the definitions name, and the mark of an accepted line. The functions that
+// read stand above, in the crates `single` and `reading`.
 use crate::hamming;
 ghost use mathlib.Core.Path.{_≡_};
 ghost use Rattle.gf2.specs.Check.{columnSum};
@@ -14,7 +14,7 @@ pub struct Reading {
 }
 
 // The mark of a line whose protected word is divisible, with the sum of its positions: 0 where it holds these Hamming bits, and otherwise
-// 1, since they are written afresh. Public for the crates that read.
+// 1, since they are changed. Public for the crates that read.
 pub fn mark_of(line: [u8; 70], sum: u16) -> u8
     requires { ⌜ sum ≡ columnSum positions (protected (places line)) ⌝ }
     ensures { λ r. ⌜ r ≡ markOf (places line) (withHamming (protected (places line))) ⌝ }

@@ -32,7 +32,7 @@ use Rattle.linecode.proofs.Codeword.{length-codeword, length-protected}
 use Rattle.linecode.proofs.Syndrome.{none-zero, none-above, none-exactly, position-named, power-named, column-position}
 use Rattle.linecode.proofs.Answers.{numbered, hamming-power, place-named}
 use Rattle.promises.proofs.CorrectTest.{tests}
-use Rattle.linecode.proofs.ReadAlone.{read-clean, read-answer, read-flip, in-bytes}
+use Rattle.linecode.proofs.ReadAlone.{read-accepted, read-answer, read-flip, in-bytes}
 use Rattle.promises.proofs.Lines.{correct-length, codeword-correct, correct-rewritten, correct-accepted, correct-syndrome, near, correct-apart, accepted-correct, correct-xor}
 
 holds : (b : Bool) → b ≡ true → T b
@@ -77,7 +77,7 @@ module _ (found : Word) where
       answered (Protected i) e n = second i (accepted (flip i found)) e n refl
 
       first : (b : Bool) → accepted found ≡ b → Read-cases
-      first true e = inl (found, read-clean found e, holds (accepted found) e, refl, λ w. omega arith)
+      first true e = inl (found, read-accepted found e, holds (accepted found) e, refl, λ w. omega arith)
       first false e = answered (answerTo (syndrome found)) e refl
 
 reads-as : (w found fresh : Word) → readAlone found ≡ acceptedAs found fresh → fresh ≡ w → ReadsAs w (readAlone found)
@@ -168,7 +168,7 @@ corrects w found c e d = go (accepted found) refl
 
     go : (b : Bool) → accepted found ≡ b → ReadsAs w (readAlone found)
     go true f =
-        reads-as w found _ (read-clean found f) (near w found c e (omega arith) (holds (accepted found) f))
+        reads-as w found _ (read-accepted found f) (near w found c e (omega arith) (holds (accepted found) f))
     go false f =
         missed f (one-flip found w (e ∙ sym (correct-length w c)) (subst (λ (n : ℕ). n ≤ 1) (ap weight (xor-comm w found)) d))
 
@@ -176,7 +176,7 @@ corrects w found c e d = go (accepted found) refl
 -- a correct line reads as itself with mark 0
 read-correct : (w : Word) → Correct w → readAlone w ≡ record { word = w; mark = 0 }
 read-correct w c =
-    read-clean w (correct-accepted w c)
+    read-accepted w (correct-accepted w c)
     ∙ ap (acceptedAs w) (correct-rewritten w c)
     ∙ ap (λ (b : Bool). record { word = w; mark = cond b 0 1 }) (same-refl w)
 
@@ -229,6 +229,20 @@ rewritten found e = (λ m. (λ four. omega arith, differs m (sound found e)), λ
             let same = as-found (clean-only found e (omega arith)) .1 in
             let z : ⊥ = omega (arith, ap (distance found) same ∙ distance-self found) in
             absurd z
+
+hammingHurt : (w found : Word) → Correct w → length found ≡ linePlaces → protected found ≡ protected w → 1 ≤ distance w found
+    → readAlone found ≡ record { word = w; mark = 1 }
+unfolding accepted
+hammingHurt w found c e p d =
+    read-accepted found (ap (divisible generator) p ∙ correct-accepted w c)
+    ∙ ap (acceptedAs found) (ap withHamming p ∙ correct-rewritten w c)
+    ∙ go (same found w) refl
+  where
+    go : (b : Bool) → same found w ≡ b → _≡_ {A = Read} (record { word = w; mark = cond b 0 1 }) (record { word = w; mark = 1 })
+    go true s =
+        let z : ⊥ = omega (arith, ap (distance w) (same-equal found w (holds _ s)) ∙ distance-self w) in
+        absurd z
+    go false s = refl
 
 before : (found : Word) → (readBefore found .word ≡ readAlone found .word)
     × ((readBefore found .mark ≡ readAlone found .mark) ⊎ ((readBefore found .mark ≤ 1) × (readAlone found .mark ≤ 1)))
@@ -311,6 +325,7 @@ promises =
       marks = marks;
       clean = clean;
       rewritten = rewritten;
+      hammingHurt = hammingHurt;
       before = before;
       tests = tests;
       writes = writes;

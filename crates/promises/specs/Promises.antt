@@ -10,7 +10,7 @@ use Rattle.gf2.specs.Word.{Word, _⊕_, zeros, distance}
 use Rattle.gf2.specs.Check.{bit, divisible, crc}
 use Rattle.gf2.specs.Generator.{generator}
 use Rattle.linecode.specs.Places.{linePlaces, lineBytes, bitsOf, loaded, places, lineOf, xorBytes}
-use Rattle.linecode.specs.Code.{dataOf, codeword, Correct, isCorrect, columns, answerTo, syndromeOf, placeOf}
+use Rattle.linecode.specs.Code.{protected, dataOf, codeword, Correct, isCorrect, columns, answerTo, syndromeOf, placeOf}
 use Rattle.linecode.specs.Reading.{Read, readAlone}
 use Rattle.linecode.specs.Before.{readBefore}
 use Rattle.linecode.specs.Entry.{written, reading}
@@ -74,6 +74,9 @@ pub record Promises : Type 0 where
   -- mark 1 exactly if it is accepted and the line read differs from the line found in some place
   pub rewritten : (found : Word) → length found ≡ linePlaces
       → (readAlone found .mark ≡ 1) ↔ ((readAlone found .mark ≡ 4 → ⊥) × (1 ≤ distance found (readAlone found .word)))
+  -- a correct line hurt in its Hamming bits alone is read as it was, with mark 1
+  pub hammingHurt : (w found : Word) → Correct w → length found ≡ linePlaces → protected found ≡ protected w → 1 ≤ distance w found
+      → readAlone found ≡ record { word = w; mark = 1 }
   -- before request Q-1 a line was read alike; its mark is the same, or was and is one of an accepted line
   pub before : (found : Word) → (readBefore found .word ≡ readAlone found .word)
       × ((readBefore found .mark ≡ readAlone found .mark) ⊎ ((readBefore found .mark ≤ 1) × (readAlone found .mark ≤ 1)))

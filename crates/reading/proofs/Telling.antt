@@ -19,7 +19,7 @@ use Rattle.linecode.proofs.Line.{length-places}
 use Rattle.linecode.proofs.Positions.{position-sum-lt}
 use Rattle.linecode.proofs.Codeword.{length-storedHamming, isCorrect-parts}
 use Rattle.linecode.proofs.Stores.{stored-sum, storedHamming-number}
-use Rattle.linecode.proofs.ReadAlone.{read-clean, mark-when, in-bytes}
+use Rattle.linecode.proofs.ReadAlone.{read-accepted, mark-when, in-bytes}
 use Rattle.sweep.specs.Sums.{bothSums}
 use Rattle.sweep.proofs.BothSums.{sums-when}
 
@@ -95,7 +95,7 @@ untouched l s whole bytes e h q =
     let held = storedHamming-number l whole bytes in
     let right : columnSum positions (protected (places l)) ≡ number (storedHamming (places l)) =
     omega (arith, b .1, position-sum-lt (protected (places l))) in
-    sym (in-bytes l _ (read-clean (places l) (b .0)))
+    sym (in-bytes l _ (read-accepted (places l) (b .0)))
     ∙ ap₂ (λ (x : List ℕ) (m : ℕ). record { line = x; mark = m })
     (sym (stored-sum l whole bytes s (b .1))
     ∙ ap (λ (x : ℕ). sets l 67 (x ∷ s % 256 ∷ s / 256 ∷ [])) kept

@@ -19,8 +19,9 @@ use Rattle.linecode.proofs.Loading.{written-loaded}
 use Rattle.scheme.specs.Layer.{readLine, CorrectLine, parityAddress, ReadsAs, Promises}
 use Rattle.scheme.specs.Visit.{Group}
 use Rattle.scheme.specs.Marks.{MarksTell}
-use Rattle.scheme.specs.Readings.{SameButMark}
-use Rattle.rectangle.specs.Store.{readUnder, readUnderBefore, writeUnder, CorrectUnder, isCorrectUnder, lineLayer, bytesAt, placesAt, aloneAt, inBytes}
+use Rattle.scheme.specs.Readings.{Agreeing}
+use Rattle.rectangle.specs.Store.{readUnder, writeUnder, CorrectUnder, isCorrectUnder, lineLayer, bytesAt, placesAt, aloneAt, inBytes}
+use Rattle.rectangle.specs.Before.{readUnderBefore}
 use Rattle.rectangle.specs.Refusals.{parityCorrect}
 use Rattle.rectangle.specs.Change.{newLine}
 
@@ -54,7 +55,7 @@ unfolding readUnder CorrectUnder
 marks-tell address found e = record { clean = promises .clean found e; rewritten = promises .rewritten found e }
 
 -- before request Q-1 it read alike, but for the mark of an accepted line
-pub as-before : (address : ℕ) (found : Word) → SameButMark (readUnderBefore address found) (readUnder address found)
+pub as-before : Agreeing readUnderBefore readUnder
 unfolding readUnder readUnderBefore
 as-before address found = record { line = promises .before found .0; mark = promises .before found .1 }
 

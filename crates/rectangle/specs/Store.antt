@@ -7,7 +7,6 @@ use Rattle.gf2.specs.Word.{Word}
 use Rattle.linecode.specs.Places.{linePlaces, lineBytes, bitsOf, places, lineOf}
 use Rattle.linecode.specs.Code.{upFrom, codeword, Correct, isCorrect}
 use Rattle.linecode.specs.Reading.{readAlone}
-use Rattle.linecode.specs.Before.{readBefore}
 use Rattle.linecode.specs.declared.alone.Reading as Given
 use Rattle.scheme.specs.Layer.{Reading, Layer, Cell, readLine}
 use Rattle.scheme.specs.Visit.{Group}
@@ -16,10 +15,6 @@ use Rattle.scheme.specs.Visit.{Group}
 -- does not use
 unfoldable pub readUnder : Reading
 readUnder address found = record { line = readAlone found .word; mark = readAlone found .mark }
-
--- reading as it was before request Q-1, for comparison alone
-unfoldable pub readUnderBefore : Reading
-readUnderBefore address found = record { line = readBefore found .word; mark = readBefore found .mark }
 
 unfoldable pub writeUnder : ℕ → List ℕ → Word
 writeUnder address payload = codeword (bitsOf payload)

@@ -9,6 +9,7 @@ use Rattle.gf2.specs.Word.{Word, zeros, same, flip}
 use Rattle.linecode.specs.Places.{lineOf}
 use Rattle.linecode.specs.Code.{syndrome, answerTo, placeOf}
 use Rattle.linecode.specs.Reading.{readAlone}
+use Rattle.linecode.specs.Before.{readBefore}
 use Rattle.linecode.specs.Entry.{written}
 use Rattle.rectangle.specs.Repair.{StoreRepaired, repairStore}
 
@@ -18,6 +19,8 @@ pub data Sample : Type 0 where
   writes : List ℕ → List ℕ → Sample
   -- the zero line, hurt at these places, is read as the zero line with this mark
   accepts : List ℕ → ℕ → Sample
+  -- the zero line, hurt at these places, had this mark before request Q-1
+  wasMarked : List ℕ → ℕ → Sample
   -- the zero line, hurt at these places, has this syndrome, which names this place (553 for none), and is faulty
   refuses : List ℕ → ℕ → ℕ → Sample
   -- two rows of so many columns, with zero tables: these lines come back as zero lines with these marks, passes and answer 0
@@ -59,11 +62,14 @@ samples =
     ∷ leaves 2 (last ∷ clean ∷ clean ∷ clean ∷ []) (0 ∷ 0 ∷ 0 ∷ 0 ∷ []) 0 12
     ∷ []
 
--- cases without a star, at which a plausible and false way of repair would give other marks. The mismatch is worked out once in a visit:
+-- cases without a star: the marks of before, and one at which a plausible and false way of repair would give other marks. The mismatch is worked out once in a visit:
 -- of {1, 3, 4} line 0 takes place 1; worked out again it would be {0, 3, 4}, and line 1 would be mended by trial too
 abbrev pub cases : List Sample
 cases =
-    mends 3 (hurt (0 ∷ 1 ∷ []) ∷ hurt (0 ∷ 2 ∷ []) ∷ hurt (2 ∷ 3 ∷ 4 ∷ []) ∷ clean ∷ clean ∷ clean ∷ []) (2 ∷ 3 ∷ 3 ∷ 0 ∷ 0 ∷ 0 ∷ []) 1 ∷ []
+    wasMarked (0 ∷ []) 1
+    ∷ wasMarked (542 ∷ []) 1
+    ∷ wasMarked (543 ∷ []) 0
+    ∷ mends 3 (hurt (0 ∷ 1 ∷ []) ∷ hurt (0 ∷ 2 ∷ []) ∷ hurt (2 ∷ 3 ∷ 4 ∷ []) ∷ clean ∷ clean ∷ clean ∷ []) (2 ∷ 3 ∷ 3 ∷ 0 ∷ 0 ∷ 0 ∷ []) 1 ∷ []
 
 abbrev pub sameBytes : List ℕ → List ℕ → Bool
 sameBytes [] [] = true
@@ -91,6 +97,7 @@ abbrev pub holds : Sample → Bool
 holds (writes payload line) = sameBytes (written payload) line
 holds (accepts hurt mark) =
     let read = readAlone (hurtAt hurt (zeros 553)) in same (read .word) (zeros 553) && eqb (read .mark) mark
+holds (wasMarked hurt mark) = eqb (readBefore (hurtAt hurt (zeros 553)) .mark) mark
 holds (refuses hurt number place) =
     let line = hurtAt hurt (zeros 553) in
     let read = readAlone line in

@@ -23,7 +23,7 @@ choose R {b = b} {w} {x} {y} {z} e p q = rw e (go b)
     go true = p
     go false = q
 
-same-faulty : {c d : Cell} → SameButMark c d → isFaulty c ≡ isFaulty d
+pub same-faulty : {c d : Cell} → SameButMark c d → isFaulty c ≡ isFaulty d
 same-faulty {c} {d} r =
     ⊎-elim (λ e. rw e) (λ h. rw (ne-eqb (c .mark) 4 (omega arith), ne-eqb (d .mark) 4 (omega arith))) (r .mark)
 

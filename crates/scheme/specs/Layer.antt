@@ -41,7 +41,7 @@ pub record ReadsAs (w : Word) (reading : Cell) : Type 0 where
   pub gives : reading .line ≡ w
   pub accepted : reading .mark ≤ 1
 
--- what the layer promises, and all that repair relies on; w and v are correct lines, found is a line as found
+-- what the layer promises, and all that repair and demand 3 rely on (what its marks tell: `MarksTell`); w and v are correct lines, found is a line as found
 pub record Promises (layer : Layer) : Type 0 where
   -- a correct line has all places
   pub sized : (a : ℕ) (w : Word) → layer .Correct a w → length w ≡ layer .width

@@ -27,7 +27,7 @@ pub record MarkTells (layer : Layer) (address : ℕ) (found : Word) (given : Cel
   pub clean : (given .mark ≡ 0) ↔ layer .Correct address found
   pub rewritten : (given .mark ≡ 1) ↔ ((layer .read address found .mark ≡ 4 → ⊥) × (1 ≤ distance found (given .line)))
 
--- the marks of reading alone, which the layer promises
+-- the marks of reading alone: a promise of the layer apart from those that repair relies on
 abbrev pub MarksTell : Layer → Type 0
 MarksTell layer =
     (address : ℕ) (found : Word) → length found ≡ layer .width → MarkTells layer address found (layer .read address found)

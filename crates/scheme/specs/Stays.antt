@@ -11,7 +11,7 @@ use Rattle.scheme.specs.Repair.{pass, passesFrom}
 pub record Stays (before after : State) : Type 0 where
   pub accepted : (n : ℕ) → (cellAt before n .mark ≡ 4 → ⊥) → cellAt after n ≡ cellAt before n
   pub faulty : (n : ℕ) → cellAt after n .mark ≡ 4 → cellAt after n ≡ cellAt before n
-  -- a line that was faulty is mended by trial or rebuilt, or still faulty: its mark is 2, 3 or 4
+  -- a line that was faulty is mended by trial or rebuilt, or still faulty: its mark is 2 or more (`RepairMarks`: at most 4)
   pub mended : (n : ℕ) → cellAt before n .mark ≡ 4 → 2 ≤ cellAt after n .mark
 
 -- by a visit, by a pass and by all passes, whenever the line was accepted

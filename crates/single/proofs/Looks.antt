@@ -1,4 +1,4 @@
--- What a line reads as: accepted as it stands, or by the corrector and the second look at the CRC.
+-- What a line reads as: accepted at the first look, or by the corrector and the second look at the CRC.
 use mathlib.Core.Path.{_≡_, refl, sym, ap, ap₂, _∙_, subst}
 use mathlib.Core.Bool.{Bool, true, false}
 use mathlib.Core.List.{List, [], _∷_, _++_}
@@ -24,7 +24,7 @@ use Rattle.linecode.proofs.hamming.Answer.{the-type}
 use Rattle.linecode.proofs.Line.{dataOf-line, length-places}
 use Rattle.linecode.proofs.Codeword.{length-dataOf, length-storedCrc, protected-parts, accepted-written, without-spare}
 use Rattle.linecode.proofs.Syndrome.{syndrome-parts}
-use Rattle.linecode.proofs.ReadAlone.{read-clean, in-bytes}
+use Rattle.linecode.proofs.ReadAlone.{read-accepted, in-bytes}
 use Rattle.single.specs.Corrector.{corrector}
 
 -- an accepted line reads as the codeword of its data
@@ -35,7 +35,7 @@ unfolding codeword
 accepted-reading l m e a f =
     ap₂ (λ (p : Word) (k : ℕ). record { line = lineOf (withHamming p); mark = k })
     (sym (accepted-written (places l) (length-places l e) (subst T (sym a) tt))) f
-    ∙ in-bytes l _ (read-clean (places l) a)
+    ∙ in-bytes l _ (read-accepted (places l) a)
 
 -- where no protected place is named, the enum's tags 0 and 1, the corrector does nothing
 pub unnamed : (a : Answer) (w : Word) → OneOf (0 ∷ 1 ∷ []) (tagOf the-type a) → w ≡ corrector a w

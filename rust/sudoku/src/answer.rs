@@ -136,7 +136,7 @@ pub enum Mark {
     /// 0: correct as found; its spare bits don't count.
     Clean,
     /// 1: accepted, and rewritten somewhere: a bit of data or check was
-    /// flipped, or Hamming bits were written afresh.
+    /// flipped, or Hamming bits were changed.
     Rewritten,
     /// 2: mended by trial.
     Trial,

@@ -6,7 +6,7 @@ use native.Mathlib.Omega.{arith}
 use Rattle.linecode.specs.Places.{places}
 use Rattle.linecode.specs.Code.{protected}
 use Rattle.linecode.proofs.Positions.{position-sum-lt}
-use Rattle.linecode.proofs.ReadAlone.{read-clean, in-bytes}
+use Rattle.linecode.proofs.ReadAlone.{read-accepted, in-bytes}
 use Rattle.reading.proofs.Telling.{below, above}
 use Rattle.reading.proofs.read_summed.Statement.{statement}
 use Rattle.reading.proofs.read_summed.Tie as tie
@@ -25,7 +25,7 @@ returns c =
     let read = c .before in
     let start = read .before .before in
     ap₂ (λ (x : List ℕ) (m : ℕ). record { line = x; mark = m }) (read .with-bits .ensures) (c .mark-of .ensures)
-    ∙ in-bytes (start .args .line) _ (read-clean _ (below _ _ (start .pre .1) (read .before .if1 .taken) .0))
+    ∙ in-bytes (start .args .line) _ (read-accepted _ (below _ _ (start .pre .1) (read .before .if1 .taken) .0))
 
 cast-read-hurt : tie.Need-cast-read-hurt
 cast-read-hurt c =
