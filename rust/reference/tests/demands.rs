@@ -160,8 +160,9 @@ fn demand_3_tables_tell_rectangles_apart() {
 
 /// Reads one correct line alone with every pair of places hurt.
 ///
-/// Two Hamming bits: the line comes back, with mark 1. Any other pair: the corrector makes
-/// three hurt places of two or does nothing, and the line is faulty as found.
+/// Two Hamming bits: the line comes back, with mark 1. Any other pair: the
+/// corrector makes three hurt places of two or does nothing, and the line is
+/// faulty as found.
 fn all_pairs(line: [u8; LINE_BYTES]) {
     let mut count = 0;
     for b in 0..PLACES {
