@@ -12,14 +12,19 @@
  * What a caller owes, since no function can test it:
  * - The length after a pointer is the buffer's true length: so many bytes may be read, and written where they are not const. Any
  *   true length may be handed in; one that the call cannot use is refused. A null pointer goes with length 0 only.
- * - `mark` and `passes` are not null. They are returned values: every call sets them, to 0 on refusals but for one, below.
- * - Writable buffers, `mark` and `passes` among them, overlap nothing else that is handed in. Buffers that are only read may
- *   overlap each other.
+ * - `mark`, `passes` and `number` are not null. They are returned values: every call sets them, to 0 on refusals but for three,
+ *   below.
+ * - Writable buffers, `mark`, `passes` and `number` among them, overlap nothing else that is handed in. Buffers that are only read
+ *   may overlap each other.
+ * - Callers of sudoku_change_line and sudoku_repair are compiled with this header. An earlier one had no `number`: a call compiled
+ *   with it still links, and then a value is written to some place that the caller never named.
  * - Making tables and repair need about 110 kB of stack, whatever the size of the rectangle; the other calls less than 2 kB.
  *
  * What a caller should know:
- * - After a refusal (2 to 10) the buffers are as they were: what stands in `out` or `marks` is no result. Only sudoku_read_line's 10
- *   writes: `out` is then the line as found. Test the answer first.
+ * - After a refusal (any answer but 0, 11 and 12) the buffers are as they were: what stands in `out` or `marks` is no result. Only
+ *   sudoku_read_line's 10 writes: `out` is then the line as found. Test the answer first.
+ * - After SUDOKU_ROW_PARITY (13) the row table has to be loaded anew, after SUDOKU_COLUMN_PARITY (14) the column table. Rows are
+ *   tested first: with 13 the column table may be bad too.
  * - After SUDOKU_LEFT (11) the lines with mark 4 are damaged, as found.
  * - After SUDOKU_DIFFERS (12) trust no line: none is faulty, but some parity line disagrees. Some line may be wrong, and nothing
  *   tells which.
@@ -43,7 +48,7 @@
  *         static uint8_t lines[LINES * SUDOKU_LINE_BYTES], out[LINES * SUDOKU_LINE_BYTES], marks[LINES];
  *         static uint8_t rows[ROWS * SUDOKU_LINE_BYTES], columns[COLUMNS * SUDOKU_LINE_BYTES];
  *         uint8_t data[SUDOKU_DATA_BYTES] = "To be, or not to be";
- *         uint64_t passes;
+ *         uint64_t passes, number;
  *
  *         for (size_t n = 0; n < LINES; n++)
  *             if (sudoku_write_line(data, sizeof data, lines + n * SUDOKU_LINE_BYTES, SUDOKU_LINE_BYTES) != SUDOKU_DONE)
@@ -52,7 +57,7 @@
  *             return 1;
  *         lines[3 * SUDOKU_LINE_BYTES] ^= 3;
  *         if (sudoku_repair(ROWS, COLUMNS, lines, sizeof lines, rows, sizeof rows, columns, sizeof columns,
- *                           out, sizeof out, marks, sizeof marks, &passes) != SUDOKU_DONE)
+ *                           out, sizeof out, marks, sizeof marks, &passes, &number) != SUDOKU_DONE)
  *             return 1;
  *         printf("%s, mark %u\n", (const char *)out + 3 * SUDOKU_LINE_BYTES, (unsigned)marks[3]);
  *         return memcmp(out + 3 * SUDOKU_LINE_BYTES, data, sizeof data) == 0 ? 0 : 1;
@@ -74,21 +79,24 @@ extern "C" {
 #define SUDOKU_GREATEST_SIDE 512
 
 /*
- * Answers. A call gives the first that fits in this order; 0 if none does. Those from 2 to 10 are refusals: all buffers are as they
- * were, and a returned value is 0. One differs: sudoku_read_line's 10, which gives the line as found and mark 4. With 11 and 12
- * the lines, the marks and the passes are given as with 0. (Numbers 1, 3 and 4 are about store files and come from no call here.)
+ * Answers. A call gives the first that fits in this order; 0 if none does. All but 0, 11 and 12 are refusals: all buffers are as
+ * they were, and a returned value is 0. Three differ: sudoku_read_line's 10, which gives the line as found and mark 4, and 13 and
+ * 14, which give the number of a row or a column, counted from 0. With 11 and 12 the lines, the marks and the passes are given as
+ * with 0. (Numbers 1, 3 and 4 are about store files and come from no call here. 9 is no longer given: 13 and 14 stand in its place
+ * and are tested after 8 and before 10.)
  */
 enum sudoku_answer {
-    SUDOKU_DONE = 0,    /* done */
-    SUDOKU_SIDES = 2,   /* rows or columns lie outside 2 to 512 */
-    SUDOKU_LINES = 5,   /* the lines handed in are not rows * columns * 70 bytes, or a single line to be read is not 70 bytes */
-    SUDOKU_TABLE = 6,   /* a table, read or written, is not 70 bytes for each of its rows or columns */
-    SUDOKU_BUFFER = 7,  /* another buffer has another length: 64 for data, 70 for a line written, and so on, as each function says */
-    SUDOKU_NUMBER = 8,  /* the line number is not below rows * columns */
-    SUDOKU_PARITY = 9,  /* a parity line is not a correct line (its spare bits do not count) */
-    SUDOKU_FAULTY = 10, /* a line to be read alone, changed or summed into tables is faulty */
-    SUDOKU_LEFT = 11,   /* repair: faulty lines are left after the last pass */
-    SUDOKU_DIFFERS = 12 /* repair: no line is faulty, but some parity line differs from that of the repaired lines: trust no line */
+    SUDOKU_DONE = 0,           /* done */
+    SUDOKU_SIDES = 2,          /* rows or columns lie outside 2 to 512 */
+    SUDOKU_LINES = 5,          /* the lines handed in are not rows * columns * 70 bytes, or a single line to be read is not 70 */
+    SUDOKU_TABLE = 6,          /* a table, read or written, is not 70 bytes for each of its rows or columns */
+    SUDOKU_BUFFER = 7,         /* another buffer has another length: 64 for data, 70 for a line written, as each function says */
+    SUDOKU_NUMBER = 8,         /* the line number is not below rows * columns */
+    SUDOKU_ROW_PARITY = 13,    /* a row's parity line is not a correct line (its spare bits do not count) */
+    SUDOKU_COLUMN_PARITY = 14, /* a column's parity line is not a correct line (its spare bits do not count) */
+    SUDOKU_FAULTY = 10,        /* a line to be read alone, changed or summed into tables is faulty */
+    SUDOKU_LEFT = 11,          /* repair: faulty lines are left after the last pass */
+    SUDOKU_DIFFERS = 12        /* repair: no line is faulty, but some parity line differs from the repaired lines': trust no line */
 };
 
 /* Marks: what became of a line. Reading alone gives 0, 1 or 4. */
@@ -129,12 +137,13 @@ uint32_t sudoku_make_tables(size_t rows, size_t columns, const uint8_t *lines, s
  * Writes line `n` anew from 64 data bytes and changes its two parity lines with it; no other byte changes. The old line counts
  * as it reads alone. Other lines and parity lines are not looked at: where they disagreed, they still do.
  *
- * Answers: 0; 2; 5; 6; 7 if `data_len` is not 64; 8; 9 if one of the line's own two parity lines is not correct; 10 if the line
- * is faulty.
+ * Answers: 0; 2; 5; 6; 7 if `data_len` is not 64; 8; 13 if the parity line of the line's own row is not correct, with that row as
+ * `number`; 14 if that of its own column is not, with that column as `number`; 10 if the line is faulty. With all but 13 and 14
+ * `number` is 0.
  */
 uint32_t sudoku_change_line(size_t rows, size_t columns, uint8_t *lines, size_t lines_len,
                             uint8_t *row_table, size_t row_len, uint8_t *column_table, size_t column_len,
-                            size_t n, const uint8_t *data, size_t data_len);
+                            size_t n, const uint8_t *data, size_t data_len, uint64_t *number);
 
 /*
  * Repairs a rectangle: reads lines and tables, writes the repaired lines into `out` (rows * columns * 70 bytes) and a mark for
@@ -142,11 +151,13 @@ uint32_t sudoku_change_line(size_t rows, size_t columns, uint8_t *lines, size_t 
  * that do not. Lines and tables that are handed in stay as they are.
  *
  * Answers: 0; 11, some lines have mark 4 and are as found; 12, trust no line; all three with lines, marks and passes. 2; 5; 6; 7 if
- * `out_len` or `marks_len` is another; 9 if any parity line is not correct: `out` and `marks` are then as before.
+ * `out_len` or `marks_len` is another; 13 if any row's parity line is not correct, with the first such row as `number`; 14 if any
+ * column's is not, with the first such column as `number`: `out` and `marks` are then as before. With all but 13 and 14 `number`
+ * is 0.
  */
 uint32_t sudoku_repair(size_t rows, size_t columns, const uint8_t *lines, size_t lines_len,
                        const uint8_t *row_table, size_t row_len, const uint8_t *column_table, size_t column_len,
-                       uint8_t *out, size_t out_len, uint8_t *marks, size_t marks_len, uint64_t *passes);
+                       uint8_t *out, size_t out_len, uint8_t *marks, size_t marks_len, uint64_t *passes, uint64_t *number);
 
 #ifdef __cplusplus
 }

@@ -58,8 +58,9 @@ impl Doer {
         }
     }
 
-    /// Repairs a store; gives the answer and the passes.
-    pub fn repair(self, store: &Store, out: &mut Buffers) -> (u32, u64) {
+    /// Repairs a store; gives the answer, the passes and the number of the
+    /// first bad row or column.
+    pub fn repair(self, store: &Store, out: &mut Buffers) -> (u32, u64, u64) {
         let (side, lines) = (store.side, &store.lines);
         let (rows, columns) = (&store.row_table, &store.column_table);
         let (out, marks) = (&mut out.lines, &mut out.marks);
@@ -67,11 +68,11 @@ impl Doer {
             Doer::Library => sudoku::c::repair(side, side, lines, rows, columns, out, marks),
             Doer::Peer => {
                 let given = peer::repair(side, side, lines, rows, columns, out, marks);
-                (given.answer, given.passes)
+                (given.answer, given.passes, given.number)
             }
             Doer::Copy => {
                 out.copy_from_slice(lines);
-                (0, 0)
+                (0, 0, 0)
             }
         }
     }
@@ -96,8 +97,9 @@ pub fn compare_writing(data: &[u8]) {
 
 /// Makes sure that library and peer do the same with a store: that they read
 /// each line alone alike, give the same answer and tables, and in repair the
-/// same answer, passes, lines and marks. Answer and passes are the expected.
-pub fn compare(store: &Store, expected: (u32, u64)) {
+/// same answer, passes, number, lines and marks. Answer and passes are the
+/// expected, and no row or column is bad.
+pub fn compare(store: &Store, (answer, passes): (u32, u64)) {
     for line in store.lines.chunks(LINE_BYTES) {
         both("reading a line", |doer| {
             let mut out = [0; LINE_BYTES];
@@ -112,5 +114,5 @@ pub fn compare(store: &Store, expected: (u32, u64)) {
         let mut out = Buffers::new(store.side);
         (doer.repair(store, &mut out), out)
     });
-    assert_eq!(given, expected, "answer and passes");
+    assert_eq!(given, (answer, passes, 0), "answer, passes and number");
 }

@@ -60,15 +60,18 @@ pub fn make_tables(
 pub struct Repair {
     /// The answer.
     pub answer: u32,
-    /// The passes made; 0 with answers 1 to 10.
+    /// The passes made; 0 on refusals.
     pub passes: u64,
+    /// The first bad row with 13, the first bad column with 14, otherwise 0.
+    pub number: u64,
 }
 
 /// Repairs a rectangle: reads lines and tables, writes lines into `out` and
 /// one mark for each into `marks`.
 ///
-/// Refusals: 2, 5, 6 (either table), 7 (out or marks), 9 (any parity line).
-/// With 11 and 12 lines and marks are still written.
+/// Refusals: 2, 5, 6 (either table), 7 (out or marks), 13 (the parity line of
+/// any row), 14 (that of any column). With 11 and 12 lines and marks are still
+/// written.
 pub fn repair(
     rows: usize,
     columns: usize,
@@ -78,7 +81,11 @@ pub fn repair(
     out: &mut [u8],
     marks: &mut [u8],
 ) -> Repair {
-    let refused = |answer| Repair { answer, passes: 0 };
+    let refused = |answer| Repair {
+        answer,
+        passes: 0,
+        number: 0,
+    };
     if !sides_fit(rows, columns) {
         return refused(answer::SIDES);
     }
@@ -98,8 +105,8 @@ pub fn repair(
     let mut row_groups = groups(row_table);
     let mut column_groups = groups(column_table);
     let all_groups = || row_groups.iter().chain(&column_groups);
-    if !all_groups().all(|group| code::correct(&group.lacks)) {
-        return refused(answer::PARITY);
+    if !all_groups().all(Group::parity_is_correct) {
+        return bad_parity(&row_groups, &column_groups);
     }
 
     let out = lines_of_mut(out);
@@ -137,7 +144,27 @@ pub fn repair(
     };
     let passes = rectangle.passes();
     let answer = rectangle.answer();
-    Repair { answer, passes }
+    Repair {
+        answer,
+        passes,
+        number: 0,
+    }
+}
+
+/// What repair gives where the parity line of some group isn't correct: rows
+/// before columns, and the first of them.
+#[cold]
+fn bad_parity(row_groups: &[Group], column_groups: &[Group]) -> Repair {
+    let first = |groups: &[Group]| groups.iter().position(|group| !group.parity_is_correct());
+    let (answer, number) = match first(row_groups) {
+        Some(row) => (answer::ROW_PARITY, row),
+        None => (answer::COLUMN_PARITY, first(column_groups).unwrap_or(0)),
+    };
+    Repair {
+        answer,
+        passes: 0,
+        number: number as u64,
+    }
 }
 
 /// A row or a column.
@@ -157,6 +184,11 @@ impl Group {
             faulty: 0,
             changed: true,
         }
+    }
+
+    /// Whether its parity line is correct, before any line is added to it.
+    fn parity_is_correct(&self) -> bool {
+        code::correct(&self.lacks)
     }
 
     /// Whether a visit may mend anything.

@@ -21,8 +21,8 @@ fn same_repair(store: &Store) -> u32 {
         &mut marks,
     );
     assert_eq!(
-        (given.answer, given.passes),
-        (expected.answer, expected.passes)
+        (given.answer, given.passes, given.number),
+        (expected.answer, expected.passes, expected.number)
     );
     assert_eq!(marks, expected.marks);
     assert!(out == expected.lines);
@@ -115,7 +115,7 @@ fn read_line_agrees() {
 #[test]
 fn make_tables_agrees() {
     let mut random = Random::new(3);
-    let mut answers = [0usize; 13];
+    let mut answers = [0usize; 11];
     for _ in 0..2000 {
         let mut store = draw::hurt_store(&mut random, 6);
         if random.once_in(2) {
@@ -130,13 +130,14 @@ fn make_tables_agrees() {
 #[test]
 fn repair_agrees() {
     let mut random = Random::new(4);
-    let mut answers = [0usize; 13];
+    let mut answers = [0usize; 15];
     for _ in 0..12_000 {
         let store = draw::hurt_store(&mut random, 8);
         answers[same_repair(&store) as usize] += 1;
     }
-    for answer in [0, 9, 11, 12] {
-        assert!(answers[answer] > 100);
+    for (answer, count) in answers.into_iter().enumerate() {
+        let given = [0, 11, 12, 13, 14].contains(&answer);
+        assert!(if given { count > 100 } else { count == 0 });
     }
 }
 
@@ -193,7 +194,7 @@ fn repair_agrees_on_the_greatest_store() {
 #[test]
 fn refusals_agree() {
     let mut random = Random::new(9);
-    let mut answers = [0usize; 13];
+    let mut answers = [0usize; 15];
     for _ in 0..20_000 {
         let call = draw::call(&mut random, 3);
         let (rows, columns) = (call.rows, call.columns);
@@ -224,13 +225,15 @@ fn refusals_agree() {
         let (out, marks) = (&mut b.out, &mut b.marks);
         let given = peer::repair(rows, columns, lines, row, column, out, marks);
         assert_eq!(
-            (given.answer, given.passes),
-            (expected.answer, expected.passes)
+            (given.answer, given.passes, given.number),
+            (expected.answer, expected.passes, expected.number)
         );
         assert_eq!(a, b);
         answers[given.answer as usize] += 1;
     }
-    for answer in [0, 2, 5, 6, 7, 9, 11, 12] {
-        assert!(answers[answer] > 10, "answer {answer}: {}", answers[answer]);
+    for (answer, count) in answers.into_iter().enumerate() {
+        let given = [0, 2, 5, 6, 7, 11, 12, 13, 14].contains(&answer);
+        let fits = if given { count > 10 } else { count == 0 };
+        assert!(fits, "answer {answer}: {count}");
     }
 }

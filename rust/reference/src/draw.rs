@@ -34,6 +34,8 @@ pub struct Outcome {
     pub answer: u32,
     /// The passes.
     pub passes: u64,
+    /// The number of the first bad row or column.
+    pub number: u64,
     /// The lines written out.
     pub lines: Vec<u8>,
     /// The marks written out.
@@ -85,13 +87,22 @@ impl Store {
 
     /// The bytes of line n, to be changed; none if there is no such line.
     pub fn line_mut(&mut self, n: usize) -> &mut [u8] {
-        let lines = self.lines.chunks_exact_mut(LINE_BYTES);
-        lines.into_iter().nth(n).unwrap_or(&mut [])
+        nth_line(&mut self.lines, n)
     }
 
     /// Flips these places of line n.
     pub fn hurt(&mut self, n: usize, places: &[usize]) {
         flip(self.line_mut(n), places);
+    }
+
+    /// Flips these places of a row's parity line.
+    pub fn hurt_row_parity(&mut self, row: usize, places: &[usize]) {
+        flip(nth_line(&mut self.row_table, row), places);
+    }
+
+    /// Flips these places of a column's parity line.
+    pub fn hurt_column_parity(&mut self, column: usize, places: &[usize]) {
+        flip(nth_line(&mut self.column_table, column), places);
     }
 
     /// The store's file, for sides that its header can tell.
@@ -120,10 +131,17 @@ impl Store {
         Outcome {
             answer: given.answer,
             passes: given.passes,
+            number: given.number,
             lines,
             marks,
         }
     }
+}
+
+/// The bytes of the line that stands in these as the nth; none if there is no
+/// such line.
+fn nth_line(bytes: &mut [u8], n: usize) -> &mut [u8] {
+    bytes.chunks_exact_mut(LINE_BYTES).nth(n).unwrap_or(&mut [])
 }
 
 /// Flips these places of a line's bytes; places that aren't there are passed
@@ -251,7 +269,8 @@ pub enum Damage {
     /// Lines hurt in one to ten of their Hamming bits and nowhere else, and a
     /// few lines hurt anywhere.
     HammingBits,
-    /// A parity line hurt at one to three places.
+    /// One to three parity lines, mostly of one table, hurt at one to three
+    /// places each.
     ParityHurt,
     /// A parity line replaced by another correct one, and a few lines hurt.
     ParityForeign,
@@ -420,14 +439,20 @@ pub fn hurt(random: &mut Random, store: &mut Store, way: Damage) {
             hurt_a_few(random, store);
         }
         Damage::ParityHurt => {
-            let count = random.between(1, 3);
-            let places = places(random, count);
-            flip(parity_line(random, store), &places);
+            // A bad row hides the bad columns.
+            let of_rows = random.once_in(2);
+            for _ in 0..random.between(1, 3) {
+                let count = random.between(1, 3);
+                let places = places(random, count);
+                let of_rows = of_rows != random.once_in(8);
+                flip(parity_line(random, store, of_rows), &places);
+            }
             hurt(random, store, Damage::Scattered);
         }
         Damage::ParityForeign => {
             let foreign = correct_line(random);
-            parity_line(random, store).copy_from_slice(&foreign);
+            let of_rows = random.once_in(2);
+            parity_line(random, store, of_rows).copy_from_slice(&foreign);
             hurt_a_few(random, store);
         }
         Damage::Noise => {
@@ -477,15 +502,13 @@ fn part_of_group(random: &mut Random, store: &Store) -> Vec<usize> {
     group
 }
 
-/// A drawn parity line of either table.
-fn parity_line<'a>(random: &mut Random, store: &'a mut Store) -> &'a mut [u8] {
-    let (table, side) = if random.once_in(2) {
-        (&mut store.row_table, store.rows)
+/// A drawn parity line of the row table or of the column table.
+fn parity_line<'a>(random: &mut Random, store: &'a mut Store, of_rows: bool) -> &'a mut [u8] {
+    if of_rows {
+        nth_line(&mut store.row_table, random.below(store.rows))
     } else {
-        (&mut store.column_table, store.columns)
-    };
-    let start = random.below(side) * LINE_BYTES;
-    &mut table[start..][..LINE_BYTES]
+        nth_line(&mut store.column_table, random.below(store.columns))
+    }
 }
 
 /// Lines of which each shares its row and its column with the one before and
@@ -565,31 +588,40 @@ pub struct Call {
     pub line_out: Vec<u8>,
 }
 
-/// Draws a call over a hurt store of sides up to `most`. Half of the calls
-/// have right sides and lengths; in the others some are wrong. Buffers that
-/// are only written hold drawn bytes.
-pub fn call(random: &mut Random, most: usize) -> Call {
-    let store = hurt_store(random, most);
-    let lines = store.count();
-    let mut data = vec![0; DATA_BYTES];
-    random.fill(&mut data);
-    let n = random.below(lines);
+/// A call over this store with right sides and lengths; line number, data, and
+/// what stands in the buffers that are only written are drawn.
+pub fn call_on(random: &mut Random, store: Store) -> Call {
+    let n = random.below(store.count());
     let mut call = Call {
         rows: store.rows,
         columns: store.columns,
         line: store.line(n).to_vec(),
         out: vec![0; store.lines.len()],
-        marks: vec![0; lines],
+        marks: vec![0; store.count()],
         lines: store.lines,
         row_table: store.row_table,
         column_table: store.column_table,
         n,
-        data,
+        data: vec![0; DATA_BYTES],
         line_out: vec![0; LINE_BYTES],
     };
-    for written in [&mut call.out, &mut call.marks, &mut call.line_out] {
-        random.fill(written);
+    for drawn in [
+        &mut call.out,
+        &mut call.marks,
+        &mut call.data,
+        &mut call.line_out,
+    ] {
+        random.fill(drawn);
     }
+    call
+}
+
+/// Draws a call over a hurt store of sides up to `most`. Half of the calls
+/// have right sides and lengths; in the others some are wrong.
+pub fn call(random: &mut Random, most: usize) -> Call {
+    let store = hurt_store(random, most);
+    let lines = store.count();
+    let mut call = call_on(random, store);
     if random.once_in(2) {
         return call;
     }

@@ -111,7 +111,7 @@ fn check(file: &[u8], greatest: usize) -> StoreFile {
 
 /// What `storecheck` prints for this file.
 ///
-/// Answers 1 to 10 give only the last line.
+/// An answer that turns back gives only the last line.
 pub fn storecheck(file: &[u8]) -> String {
     let only_answer = |answer: u32| format!("answer {answer}\n");
 
@@ -131,7 +131,7 @@ pub fn storecheck(file: &[u8]) -> String {
         &mut out,
         &mut marks,
     );
-    if (1..=10).contains(&repaired.answer) {
+    if answer::turns_back(repaired.answer) {
         return only_answer(repaired.answer);
     }
 

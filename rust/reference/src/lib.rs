@@ -1,5 +1,5 @@
 //! A second implementation of the caption store, written from its rules alone:
-//! document 01, with request Q-1 of document 02.
+//! document 01, with requests Q-1 and Q-2 of document 02.
 //!
 //! It is made to be read beside that document, not to be fast: a line is a
 //! row of 553 truth values, a check is a long division, and repair follows
@@ -14,15 +14,16 @@
 //! | "The rectangle" | [`rectangle`] |
 //! | "Repair" | [`repair`](mod@repair) |
 //! | "Store file" | [`file`](mod@file) |
-//! | "Turned back, in checking order" | [`answer`] |
+//! | "Turned back, in checking order", as Q-2 changes it | [`answer`] |
 //! | The marks, as Q-1 changes them | [`mark`] |
 //!
 //! [`random`] and [`draw`] make inputs for tests: stores, damage and files,
 //! each the same again for the same seed.
 //!
 //! The entry points take byte slices of any length and never panic on them.
-//! What they write goes into the buffers lent to them; after a refusal from 1
-//! to 10 these hold what they held before, but for [`read_line`]'s 10.
+//! What they write goes into the buffers lent to them; after a refusal, which
+//! is any answer but 0, 11 and 12, these hold what they held before, but for
+//! [`read_line`]'s 10.
 //!
 //! ```
 //! let mut line = [0; 70];
@@ -56,7 +57,7 @@ pub mod repair;
 
 pub use file::{StoreFile, check_file, storecheck};
 pub use line::{ReadLine, read_line, write_line};
-pub use rectangle::{change_line, make_tables};
+pub use rectangle::{Change, change_line, make_tables};
 pub use repair::{Repair, repair};
 
 /// Data bytes of one line.
@@ -89,7 +90,7 @@ pub const GREATEST_SIDE: usize = 512;
 /// The greatest number of rows or columns that the program takes.
 pub const PROGRAM_SIDE: usize = 16;
 
-/// The answers, by document 01's numbers.
+/// The answers, by document 01's numbers and request Q-2's; in checking order.
 pub mod answer {
     /// Success.
     pub const DONE: u32 = 0;
@@ -109,14 +110,22 @@ pub mod answer {
     pub const BUFFER: u32 = 7;
     /// The line number isn't below rows times columns.
     pub const NUMBER: u32 = 8;
-    /// A parity line, spare bits apart, isn't a correct line.
-    pub const PARITY: u32 = 9;
+    /// A row's parity line, spare bits apart, isn't a correct line.
+    pub const ROW_PARITY: u32 = 13;
+    /// A column's parity line, spare bits apart, isn't a correct line.
+    pub const COLUMN_PARITY: u32 = 14;
     /// A line to be read alone, changed or summed is faulty.
     pub const FAULTY: u32 = 10;
     /// Faulty lines are left after the last pass.
     pub const LEFT: u32 = 11;
     /// No line is faulty, but some parity line differs from the repaired lines'.
     pub const DIFFERS: u32 = 12;
+
+    /// Whether this answer turns a call back: with 0, 11 and 12 results are
+    /// handed over, with every other nothing is.
+    pub fn turns_back(answer: u32) -> bool {
+        ![DONE, LEFT, DIFFERS].contains(&answer)
+    }
 }
 
 /// The marks, by document 01's numbers; 0 and 1 mean what request Q-1 says.

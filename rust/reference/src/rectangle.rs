@@ -78,11 +78,20 @@ pub fn make_tables(
     answer::DONE
 }
 
+/// What changing a line gives, beside the lines written.
+#[derive(Clone, Copy, Debug, PartialEq, Eq)]
+pub struct Change {
+    /// The answer.
+    pub answer: u32,
+    /// The line's row with 13, its column with 14, otherwise 0.
+    pub number: u64,
+}
+
 /// Changes line `n` to the line of these data, and its two parity lines with
-/// it; gives the answer.
+/// it.
 ///
-/// Refusals: 2, 5, 6 (either table), 7 (data), 8, 9 (the line's row parity or
-/// column parity), 10 (the line as it stands).
+/// Refusals: 2, 5, 6 (either table), 7 (data), 8, 13 (the parity line of its
+/// row), 14 (that of its column), 10 (the line as it stands).
 #[allow(clippy::too_many_arguments)]
 pub fn change_line(
     rows: usize,
@@ -92,35 +101,46 @@ pub fn change_line(
     column_table: &mut [u8],
     n: usize,
     data: &[u8],
-) -> u32 {
+) -> Change {
+    let gives = |answer| Change { answer, number: 0 };
     if !sides_fit(rows, columns) {
-        return answer::SIDES;
+        return gives(answer::SIDES);
     }
     if lines.len() != rows * columns * LINE_BYTES {
-        return answer::LINES;
+        return gives(answer::LINES);
     }
     if row_table.len() != rows * LINE_BYTES || column_table.len() != columns * LINE_BYTES {
-        return answer::TABLE;
+        return gives(answer::TABLE);
     }
     let Ok(data) = <&[u8; DATA_BYTES]>::try_from(data) else {
-        return answer::BUFFER;
+        return gives(answer::BUFFER);
     };
     if n >= rows * columns {
-        return answer::NUMBER;
+        return gives(answer::NUMBER);
     }
 
+    let (row, column) = (n / columns, n % columns);
     let line_bytes = &mut lines[n * LINE_BYTES..][..LINE_BYTES];
-    let row_bytes = &mut row_table[n / columns * LINE_BYTES..][..LINE_BYTES];
-    let column_bytes = &mut column_table[n % columns * LINE_BYTES..][..LINE_BYTES];
+    let row_bytes = &mut row_table[row * LINE_BYTES..][..LINE_BYTES];
+    let column_bytes = &mut column_table[column * LINE_BYTES..][..LINE_BYTES];
 
     let row_parity = line::places(row_bytes);
+    if !line::correct(&row_parity) {
+        return Change {
+            answer: answer::ROW_PARITY,
+            number: row as u64,
+        };
+    }
     let column_parity = line::places(column_bytes);
-    if !line::correct(&row_parity) || !line::correct(&column_parity) {
-        return answer::PARITY;
+    if !line::correct(&column_parity) {
+        return Change {
+            answer: answer::COLUMN_PARITY,
+            number: column as u64,
+        };
     }
     let (old, mark) = line::read_alone(&line::places(line_bytes));
     if mark == mark::FAULTY {
-        return answer::FAULTY;
+        return gives(answer::FAULTY);
     }
 
     let new = line::written(data);
@@ -128,5 +148,5 @@ pub fn change_line(
     line_bytes.copy_from_slice(&line::bytes(&new));
     row_bytes.copy_from_slice(&line::bytes(&exclusive_or(&row_parity, &change)));
     column_bytes.copy_from_slice(&line::bytes(&exclusive_or(&column_parity, &change)));
-    answer::DONE
+    gives(answer::DONE)
 }

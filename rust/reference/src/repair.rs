@@ -11,8 +11,10 @@ use crate::{LINE_BYTES, answer, mark};
 pub struct Repair {
     /// The answer.
     pub answer: u32,
-    /// The passes made; 0 with answers 1 to 10.
+    /// The passes made; 0 where the answer turns back.
     pub passes: u64,
+    /// The first bad row with 13, the first bad column with 14, otherwise 0.
+    pub number: u64,
 }
 
 /// The greatest number of mismatch places that are tried.
@@ -21,8 +23,9 @@ const MOST_TRIED: usize = 6;
 /// Repairs a rectangle: reads lines and tables, writes lines into `out` and
 /// one mark for each into `marks`.
 ///
-/// Refusals: 2, 5, 6 (either table), 7 (out or marks), 9 (any parity line).
-/// With 11 and 12 lines and marks are still written.
+/// Refusals: 2, 5, 6 (either table), 7 (out or marks), 13 (the parity line of
+/// any row), 14 (that of any column). With 11 and 12 lines and marks are still
+/// written.
 pub fn repair(
     rows: usize,
     columns: usize,
@@ -32,7 +35,12 @@ pub fn repair(
     out: &mut [u8],
     marks: &mut [u8],
 ) -> Repair {
-    let refused = |answer| Repair { answer, passes: 0 };
+    let refused_for = |answer, number: usize| Repair {
+        answer,
+        passes: 0,
+        number: number as u64,
+    };
+    let refused = |answer| refused_for(answer, 0);
     if !sides_fit(rows, columns) {
         return refused(answer::SIDES);
     }
@@ -47,8 +55,12 @@ pub fn repair(
     }
     let row_parity = all_places(row_table);
     let column_parity = all_places(column_table);
-    if !row_parity.iter().chain(&column_parity).all(line::correct) {
-        return refused(answer::PARITY);
+    let first_bad = |table: &[Line]| table.iter().position(|parity| !line::correct(parity));
+    if let Some(row) = first_bad(&row_parity) {
+        return refused_for(answer::ROW_PARITY, row);
+    }
+    if let Some(column) = first_bad(&column_parity) {
+        return refused_for(answer::COLUMN_PARITY, column);
     }
 
     let mut held = Held::read_alone(lines);
@@ -76,7 +88,11 @@ pub fn repair(
     } else {
         answer::DONE
     };
-    Repair { answer, passes }
+    Repair {
+        answer,
+        passes,
+        number: 0,
+    }
 }
 
 /// The lines that repair holds, and the mark of each.

@@ -214,7 +214,7 @@ fn all_single_places_come_back() {
 #[test]
 fn draws_reach_every_answer_and_mark() {
     let mut random = Random::new(12);
-    let mut answers = [0usize; 13];
+    let mut answers = [0usize; 15];
     let mut marks = [0usize; 5];
     let mut most_passes = 0;
     for _ in 0..6000 {
@@ -222,15 +222,16 @@ fn draws_reach_every_answer_and_mark() {
         let outcome = store.repaired(0);
         answers[outcome.answer as usize] += 1;
         most_passes = most_passes.max(outcome.passes);
-        if outcome.answer != 9 {
+        if [0, 11, 12].contains(&outcome.answer) {
             for &mark in &outcome.marks {
                 marks[usize::from(mark)] += 1;
             }
         }
     }
     println!("answers {answers:?}, marks {marks:?}, most passes {most_passes}");
-    for answer in [0, 9, 11, 12] {
-        assert!(answers[answer] > 100);
+    for (answer, &count) in answers.iter().enumerate() {
+        let given = [0, 11, 12, 13, 14].contains(&answer);
+        assert!(if given { count > 100 } else { count == 0 });
     }
     assert!(marks.iter().all(|&count| count > 100));
     assert!(most_passes >= 4);
@@ -239,19 +240,23 @@ fn draws_reach_every_answer_and_mark() {
 #[test]
 fn file_draws_reach_every_answer() {
     let mut random = Random::new(14);
-    let mut answers = [0usize; 13];
+    let mut answers = [0usize; 15];
     for _ in 0..3000 {
         let report = reference::storecheck(&draw::store_file(&mut random));
         let last = report.lines().last().unwrap_or("");
         let answer: usize = last.strip_prefix("answer ").unwrap().parse().unwrap();
         answers[answer] += 1;
-        let lines = if (1..=10).contains(&answer) { 1 } else { 8 };
+        let lines = if [0, 11, 12].contains(&answer) { 8 } else { 1 };
         assert_eq!(report.lines().count(), lines);
         assert!(report.ends_with('\n'));
     }
     println!("answers {answers:?}");
-    for answer in [0, 1, 2, 3, 4, 9, 11, 12] {
-        assert!(answers[answer] > 10, "answer {answer}");
+    for (answer, &count) in answers.iter().enumerate() {
+        let given = [0, 1, 2, 3, 4, 11, 12, 13, 14].contains(&answer);
+        assert!(
+            if given { count > 10 } else { count == 0 },
+            "answer {answer}"
+        );
     }
 }
 
@@ -282,7 +287,7 @@ fn laws_of_repair() {
     for case in 0..3000 {
         let store = draw::hurt_store(&mut random, 7);
         let outcome = store.repaired(0xEE);
-        if outcome.answer == 9 {
+        if [13, 14].contains(&outcome.answer) {
             continue;
         }
         let mut faulty_at_first = 0;

@@ -3,8 +3,8 @@
 use reference::draw::{self, Store, flip};
 use reference::random::Random;
 use reference::{
-    LINE_BYTES, ReadLine, Repair, change_line, check_file, file, make_tables, read_line, repair,
-    storecheck, write_line,
+    Change, LINE_BYTES, ReadLine, Repair, change_line, check_file, file, make_tables, read_line,
+    repair, storecheck, write_line,
 };
 
 const FILLING: u8 = 0xA5;
@@ -103,7 +103,7 @@ impl Call {
     }
 
     /// The answers of making tables, changing and repairing; whatever refuses
-    /// must have written nothing.
+    /// must have written nothing, and only 13 and 14 may have a number.
     fn answers(&self) -> [u32; 3] {
         let (rows, columns) = (self.rows, self.columns);
 
@@ -120,7 +120,10 @@ impl Call {
 
         let mut changed = self.clone();
         let store = &mut changed.store;
-        let change = change_line(
+        let Change {
+            answer: change,
+            number,
+        } = change_line(
             rows,
             columns,
             &mut store.lines,
@@ -130,10 +133,15 @@ impl Call {
             &self.data,
         );
         assert!(change == 0 || changed.store == self.store);
+        assert!([13, 14].contains(&change) || number == 0);
 
         let mut repaired = self.clone();
         let store = &self.store;
-        let Repair { answer, passes } = repair(
+        let Repair {
+            answer,
+            passes,
+            number,
+        } = repair(
             rows,
             columns,
             &store.lines,
@@ -142,13 +150,14 @@ impl Call {
             &mut repaired.out,
             &mut repaired.marks,
         );
-        if (1..=10).contains(&answer) {
+        if ![0, 11, 12].contains(&answer) {
             assert_eq!(passes, 0);
             assert_eq!(
                 (repaired.out, repaired.marks),
                 (self.out.clone(), self.marks.clone())
             );
         }
+        assert!([13, 14].contains(&answer) || number == 0);
         [tables, change, answer]
     }
 }
@@ -166,30 +175,28 @@ fn refusals_in_checking_order() {
     other.store.hurt(2, &[0, 1]);
     assert_eq!(other.answers(), [10, 0, 0]);
 
-    // A parity line isn't correct: 9 before 10.
-    let mut parity = call.clone();
-    flip(&mut parity.store.row_table, &[543]);
-    assert_eq!(parity.answers(), [10, 9, 9]);
-    let mut parity = call.clone();
-    flip(&mut parity.store.column_table[LINE_BYTES..], &[0]);
-    assert_eq!(parity.answers(), [10, 9, 9]);
-    // Another parity line: a change checks only its two.
-    let mut parity = call.clone();
-    flip(&mut parity.store.row_table[LINE_BYTES..], &[0]);
-    flip(&mut parity.store.column_table, &[0]);
-    assert_eq!(parity.answers(), [10, 10, 9]);
-    flip(&mut call.store.row_table, &[0]);
+    // The parity line of the column isn't correct: 14 before 10.
+    call.store.hurt_column_parity(1, &[0]);
+    assert_eq!(call.answers(), [10, 14, 14]);
+    // That of the row too: 13 before 14.
+    call.store.hurt_row_parity(0, &[543]);
+    assert_eq!(call.answers(), [10, 13, 13]);
+    // Other parity lines: a change checks only its two.
+    other.store.hurt_column_parity(0, &[0]);
+    assert_eq!(other.answers(), [10, 0, 14]);
+    other.store.hurt_row_parity(1, &[0]);
+    assert_eq!(other.answers(), [10, 0, 13]);
 
-    // The line number: 8 before 9.
+    // The line number: 8 before 13.
     call.n = 6;
-    assert_eq!(call.answers(), [10, 8, 9]);
+    assert_eq!(call.answers(), [10, 8, 13]);
     call.n = usize::MAX;
-    assert_eq!(call.answers(), [10, 8, 9]);
+    assert_eq!(call.answers(), [10, 8, 13]);
 
     // Other buffers: 7 before 8.
     for length in [0, 63, 65] {
         call.data = vec![0; length];
-        assert_eq!(call.answers(), [10, 7, 9]);
+        assert_eq!(call.answers(), [10, 7, 13]);
     }
     for length in [0, 419, 421] {
         call.out = vec![FILLING; length];
@@ -255,7 +262,7 @@ fn change_equals_tables_made_anew() {
         let n = random.below(store.count());
         let mut data = [0; 64];
         random.fill(&mut data);
-        let answer = change_line(
+        let given = change_line(
             rows,
             columns,
             &mut store.lines,
@@ -264,7 +271,13 @@ fn change_equals_tables_made_anew() {
             n,
             &data,
         );
-        assert_eq!(answer, 0);
+        assert_eq!(
+            given,
+            Change {
+                answer: 0,
+                number: 0
+            }
+        );
 
         let mut line = [0; LINE_BYTES];
         write_line(&data, &mut line);
@@ -378,11 +391,7 @@ fn file_header_refusals() {
 }
 
 #[test]
-fn reports_of_refusal_9_and_answers_11_and_12() {
-    let mut store = Store::zero(2, 2);
-    flip(&mut store.column_table, &[0]);
-    assert_eq!(storecheck(&store.file()), "answer 9\n");
-
+fn reports_of_answers_11_and_12() {
     let mut store = Store::zero(2, 2);
     (0..4).for_each(|n| store.hurt(n, &[0, 1]));
     let left = "store 2 2\nclean 0\nalone 0\ntrial 0\nrebuilt 0\nfaulty 4\npasses 1\nanswer 11\n";
@@ -402,7 +411,7 @@ fn reports_of_refusal_9_and_answers_11_and_12() {
 fn drawn_calls_reach_every_refusal() {
     let mut random = Random::new(11);
     // For writing, reading, tables, changing and repairing.
-    let mut answers = [[0usize; 13]; 5];
+    let mut answers = [[0usize; 15]; 5];
     for _ in 0..20_000 {
         let mut call = draw::call(&mut random, 3);
         if random.once_in(8) {
@@ -412,7 +421,7 @@ fn drawn_calls_reach_every_refusal() {
         let (rows, columns) = (call.rows, call.columns);
         let mut count = |entry: usize, answer: u32| {
             answers[entry][answer as usize] += 1;
-            (1..=10).contains(&answer)
+            ![0, 11, 12].contains(&answer)
         };
 
         if count(0, write_line(&call.data, &mut call.line_out)) {
@@ -448,7 +457,7 @@ fn drawn_calls_reach_every_refusal() {
             call.n,
             &call.data,
         );
-        if count(3, changed) {
+        if count(3, changed.answer) {
             assert_eq!(call, before);
         }
         call.clone_from(&before);
@@ -467,8 +476,8 @@ fn drawn_calls_reach_every_refusal() {
         &[0, 7],
         &[0, 5, 7, 10],
         &[0, 2, 5, 6, 10],
-        &[0, 2, 5, 6, 7, 8, 9, 10],
-        &[0, 2, 5, 6, 7, 9, 11, 12],
+        &[0, 2, 5, 6, 7, 8, 10, 13, 14],
+        &[0, 2, 5, 6, 7, 11, 12, 13, 14],
     ];
     for (entry, counts) in answers.iter().enumerate() {
         println!("{counts:?}");

@@ -255,7 +255,11 @@ fn sides_2_and_512_pass_1_and_513_do_not() {
             &mut out,
             &mut marks,
         );
-        assert_eq!(given.answer, answer, "{rows} by {columns}");
+        assert_eq!(
+            (given.answer, given.number),
+            (answer, 0),
+            "{rows} by {columns}"
+        );
         assert_eq!(
             make_tables(
                 rows,
@@ -266,18 +270,16 @@ fn sides_2_and_512_pass_1_and_513_do_not() {
             ),
             answer
         );
-        assert_eq!(
-            change_line(
-                rows,
-                columns,
-                &mut store.lines,
-                &mut store.row_table,
-                &mut store.column_table,
-                0,
-                &[1; 64],
-            ),
-            answer
+        let changed = change_line(
+            rows,
+            columns,
+            &mut store.lines,
+            &mut store.row_table,
+            &mut store.column_table,
+            0,
+            &[1; 64],
         );
+        assert_eq!((changed.answer, changed.number), (answer, 0));
         if answer == 2 {
             assert!(out.iter().chain(&marks).all(|&b| b == 0xEE));
             assert_eq!(store, Store::zero(r, c));

@@ -3,9 +3,11 @@
 use std::error::Error;
 use std::fmt;
 
-/// What an entry point answers.
+/// What an entry point answers: the first that fits in the order in which they
+/// stand here, or [`Answer::Done`] if none does.
 ///
-/// [`Answer::number`] gives the number that C gives.
+/// [`Answer::number`] gives the number that C gives. No answer is 9 any more:
+/// 13 and 14 stand in its place, after 8 and before 10.
 #[derive(Clone, Copy, Debug, PartialEq, Eq, Hash)]
 pub enum Answer {
     /// 0: done.
@@ -27,8 +29,20 @@ pub enum Answer {
     Buffer,
     /// 8: the line number isn't below rows × columns.
     Number,
-    /// 9: a parity line isn't a correct line.
-    Parity,
+    /// 13: a row's parity line isn't a correct line. The row table has to be
+    /// loaded anew; the column table hasn't been tested.
+    RowParity {
+        /// The row, counted from 0: of a repair the first that is bad, of a
+        /// change the line's own.
+        row: usize,
+    },
+    /// 14: a column's parity line isn't a correct line. The column table has
+    /// to be loaded anew.
+    ColumnParity {
+        /// The column, counted from 0: of a repair the first that is bad, of a
+        /// change the line's own.
+        column: usize,
+    },
     /// 10: a line to be read alone, changed or summed into tables is faulty.
     Faulty,
     /// 11: faulty lines are left after the last pass of a repair. They are
@@ -42,35 +56,37 @@ pub enum Answer {
     Other(u32),
 }
 
-/// The answers in the order of their numbers.
-const ANSWERS: [Answer; 13] = [
-    Answer::Done,
-    Answer::ShortFile,
-    Answer::Sides,
-    Answer::ProgramSides,
-    Answer::Contents,
-    Answer::Lines,
-    Answer::Table,
-    Answer::Buffer,
-    Answer::Number,
-    Answer::Parity,
-    Answer::Faulty,
-    Answer::Left,
-    Answer::Differs,
-];
-
 impl Answer {
-    /// The answer with this number.
+    /// The answer that C gives by these two numbers: its own, and that of a row
+    /// or column, which only 13 and 14 look at.
     ///
     /// ```
     /// use sudoku::Answer;
-    /// assert_eq!(Answer::from_number(10), Answer::Faulty);
-    /// assert_eq!(Answer::from_number(10).number(), 10);
-    /// assert_eq!(Answer::from_number(99), Answer::Other(99));
+    /// assert_eq!(Answer::from_numbers(10, 0), Answer::Faulty);
+    /// assert_eq!(Answer::from_numbers(13, 3), Answer::RowParity { row: 3 });
+    /// assert_eq!(Answer::from_numbers(13, 3).number(), 13);
+    /// assert_eq!(Answer::from_numbers(99, 0), Answer::Other(99));
     /// ```
-    pub fn from_number(number: u32) -> Answer {
-        let known = usize::try_from(number).ok().and_then(|n| ANSWERS.get(n));
-        known.copied().unwrap_or(Answer::Other(number))
+    pub fn from_numbers(answer: u32, number: u64) -> Answer {
+        // With 13 and 14 it is below 512.
+        let index = usize::try_from(number).unwrap_or(usize::MAX);
+        match answer {
+            0 => Answer::Done,
+            1 => Answer::ShortFile,
+            2 => Answer::Sides,
+            3 => Answer::ProgramSides,
+            4 => Answer::Contents,
+            5 => Answer::Lines,
+            6 => Answer::Table,
+            7 => Answer::Buffer,
+            8 => Answer::Number,
+            13 => Answer::RowParity { row: index },
+            14 => Answer::ColumnParity { column: index },
+            10 => Answer::Faulty,
+            11 => Answer::Left,
+            12 => Answer::Differs,
+            other => Answer::Other(other),
+        }
     }
 
     /// This answer's number.
@@ -85,7 +101,8 @@ impl Answer {
             Answer::Table => 6,
             Answer::Buffer => 7,
             Answer::Number => 8,
-            Answer::Parity => 9,
+            Answer::RowParity { .. } => 13,
+            Answer::ColumnParity { .. } => 14,
             Answer::Faulty => 10,
             Answer::Left => 11,
             Answer::Differs => 12,
@@ -118,7 +135,18 @@ impl fmt::Display for Answer {
             Answer::Table => "a table has another length",
             Answer::Buffer => "a buffer or the data have another length",
             Answer::Number => "there is no line of this number",
-            Answer::Parity => "a parity line is not a correct line",
+            Answer::RowParity { row } => {
+                return write!(
+                    f,
+                    "the parity line of row {row} is not a correct line: reload the row table"
+                );
+            }
+            Answer::ColumnParity { column } => {
+                return write!(
+                    f,
+                    "the parity line of column {column} is not a correct line: reload the column table"
+                );
+            }
             Answer::Faulty => "a line is faulty",
             Answer::Left => "faulty lines are left",
             Answer::Differs => "a parity line differs from the repaired lines",

@@ -39,6 +39,7 @@ mod declared {
             n: usize,
             data: *const u8,
             data_len: usize,
+            number: *mut u64,
         ) -> u32;
         pub fn sudoku_repair(
             rows: usize,
@@ -54,13 +55,15 @@ mod declared {
             marks: *mut u8,
             marks_len: usize,
             passes: *mut u64,
+            number: *mut u64,
         ) -> u32;
     }
 }
 
 // In each call below every pointer comes from a slice or a reference together
 // with its length, and exclusive references overlap nothing: that is what the
-// header asks of them.
+// header asks of them. What a call returns through a pointer is not 0 before,
+// so that a value which it failed to set is seen.
 
 /// Writes the line of some data; gives the answer.
 pub fn write_line(data: &[u8], line: &mut [u8]) -> u32 {
@@ -107,7 +110,8 @@ pub fn make_tables(
     }
 }
 
-/// Changes line `n` with its two parity lines; gives the answer.
+/// Changes line `n` with its two parity lines; gives the answer, and the number
+/// of the line's row or column if that one's parity line is bad, otherwise 0.
 pub fn change_line(
     rows: usize,
     columns: usize,
@@ -116,9 +120,10 @@ pub fn change_line(
     column_table: &mut [u8],
     n: usize,
     data: &[u8],
-) -> u32 {
+) -> (u32, u64) {
+    let mut number = u64::MAX;
     // SAFETY: see above.
-    unsafe {
+    let answer = unsafe {
         declared::sudoku_change_line(
             rows,
             columns,
@@ -131,11 +136,14 @@ pub fn change_line(
             n,
             data.as_ptr(),
             data.len(),
+            &mut number,
         )
-    }
+    };
+    (answer, number)
 }
 
-/// Repairs a rectangle; gives the answer and the passes.
+/// Repairs a rectangle; gives the answer, the passes, and the number of the
+/// first row or column whose parity line is bad, otherwise 0.
 pub fn repair(
     rows: usize,
     columns: usize,
@@ -144,8 +152,8 @@ pub fn repair(
     column_table: &[u8],
     out: &mut [u8],
     marks: &mut [u8],
-) -> (u32, u64) {
-    let mut passes = u64::MAX;
+) -> (u32, u64, u64) {
+    let (mut passes, mut number) = (u64::MAX, u64::MAX);
     // SAFETY: see above.
     let answer = unsafe {
         declared::sudoku_repair(
@@ -162,7 +170,8 @@ pub fn repair(
             marks.as_mut_ptr(),
             marks.len(),
             &mut passes,
+            &mut number,
         )
     };
-    (answer, passes)
+    (answer, passes, number)
 }

@@ -40,6 +40,9 @@
 //!   repository's README says what holds beyond that.
 //! - Lines and tables of zero bytes are a valid store, the one that
 //!   [`Store::new`] gives: cleared memory can't be told from empty captions.
+//! - After [`Answer::RowParity`] or [`Answer::ColumnParity`] that table is bad
+//!   and has to be loaded anew ([`Store::row_table_mut`],
+//!   [`Store::column_table_mut`]). Rows are tested first, so both may be bad.
 //! - A refused call leaves the store as it was.
 //!
 //! # Linking

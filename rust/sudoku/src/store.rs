@@ -213,7 +213,7 @@ impl Store {
             &mut self.row_table,
             &mut self.column_table,
         );
-        Answer::from_number(answer).done()
+        Answer::from_numbers(answer, 0).done()
     }
 
     /// Writes line `n` anew from 64 data bytes, and its two parity lines with
@@ -230,11 +230,12 @@ impl Store {
     ///
     /// # Errors
     ///
-    /// [`Answer::Number`] if there is no such line; [`Answer::Parity`] if one
-    /// of its two parity lines isn't a correct line; [`Answer::Faulty`] if the
-    /// line is faulty. The store is then as before.
+    /// [`Answer::Number`] if there is no such line; [`Answer::RowParity`] or
+    /// [`Answer::ColumnParity`] if the parity line of its row or of its column
+    /// isn't a correct line; [`Answer::Faulty`] if the line is faulty. The
+    /// store is then as before.
     pub fn change(&mut self, n: usize, data: &[u8; DATA_BYTES]) -> Result<(), Answer> {
-        let answer = c::change_line(
+        let (answer, number) = c::change_line(
             self.rows,
             self.columns,
             &mut self.lines,
@@ -243,7 +244,7 @@ impl Store {
             n,
             data,
         );
-        Answer::from_number(answer).done()
+        Answer::from_numbers(answer, number).done()
     }
 
     /// Repairs the lines; this store stays as it is.
@@ -261,16 +262,27 @@ impl Store {
     /// let repaired = store.repair()?;
     /// assert_eq!(repaired.answer, Answer::Left);
     /// assert_eq!(repaired.marks, [Mark::Faulty; 4]);
+    ///
+    /// // A bad parity line: the answer says which table to load anew.
+    /// store.column_table_mut()[70] ^= 3;
+    /// let refused = store.repair().unwrap_err();
+    /// assert_eq!(refused, Answer::ColumnParity { column: 1 });
+    /// assert_eq!(
+    ///     refused.to_string(),
+    ///     "the parity line of column 1 is not a correct line: reload the column table"
+    /// );
     /// # Ok::<(), Answer>(())
     /// ```
     ///
     /// # Errors
     ///
-    /// [`Answer::Parity`] if some parity line isn't a correct line.
+    /// [`Answer::RowParity`] if some row's parity line isn't a correct line,
+    /// with the first such row; [`Answer::ColumnParity`] likewise if all rows'
+    /// are correct and some column's isn't.
     pub fn repair(&self) -> Result<Repaired, Answer> {
         let mut lines = vec![0; self.lines.len()];
         let mut marks = vec![0; self.count()];
-        let (answer, passes) = c::repair(
+        let (answer, passes, number) = c::repair(
             self.rows,
             self.columns,
             &self.lines,
@@ -279,7 +291,7 @@ impl Store {
             &mut lines,
             &mut marks,
         );
-        let answer = Answer::from_number(answer);
+        let answer = Answer::from_numbers(answer, number);
         if !matches!(answer, Answer::Done | Answer::Left | Answer::Differs) {
             return Err(answer);
         }

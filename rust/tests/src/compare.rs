@@ -35,18 +35,26 @@ impl Entry {
             Entry::Write => &[0, 7],
             Entry::Read => &[0, 5, 7, 10],
             Entry::Tables => &[0, 2, 5, 6, 10],
-            Entry::Change => &[0, 2, 5, 6, 7, 8, 9, 10],
-            Entry::Repair => &[0, 2, 5, 6, 7, 9, 11, 12],
+            Entry::Change => &[0, 2, 5, 6, 7, 8, 13, 14, 10],
+            Entry::Repair => &[0, 2, 5, 6, 7, 13, 14, 11, 12],
         }
     }
 }
 
-/// What a call gives: its answer, the mark or the passes, and every buffer
-/// handed in, read or written, as it is after.
+/// The numbers that a call gives: its answer, the mark or the passes, and the
+/// number of a bad row or column; 0 where it gives none.
+#[derive(Clone, Copy, Debug, PartialEq, Eq)]
+struct Numbers {
+    answer: u32,
+    value: u64,
+    number: u64,
+}
+
+/// What a call gives: its numbers, and every buffer handed in, read or written,
+/// as it is after.
 #[derive(Debug, PartialEq, Eq)]
 struct Given {
-    answer: u32,
-    number: u64,
+    numbers: Numbers,
     buffers: Vec<Vec<u8>>,
 }
 
@@ -62,26 +70,33 @@ fn buffers(entry: Entry, call: &Call) -> (Vec<&[u8]>, usize) {
     }
 }
 
-/// Makes the call over these buffers; gives the answer and the mark or passes.
-fn make(entry: Entry, call: &Call, on: &dyn Interface, buffers: &mut [&mut [u8]]) -> (u32, u64) {
+/// Makes the call over these buffers.
+fn make(entry: Entry, call: &Call, on: &dyn Interface, buffers: &mut [&mut [u8]]) -> Numbers {
     let (rows, columns) = (call.rows, call.columns);
-    match (entry, buffers) {
-        (Entry::Write, [line, data]) => (on.write_line(data, line), 0),
+    let (answer, value, number) = match (entry, buffers) {
+        (Entry::Write, [line, data]) => (on.write_line(data, line), 0, 0),
         (Entry::Read, [out, line]) => {
             let (answer, mark) = on.read_line(line, out);
-            (answer, mark.into())
+            (answer, mark.into(), 0)
         }
         (Entry::Tables, [of_rows, of_columns, lines]) => {
-            (on.make_tables(rows, columns, lines, of_rows, of_columns), 0)
+            let answer = on.make_tables(rows, columns, lines, of_rows, of_columns);
+            (answer, 0, 0)
         }
         (Entry::Change, [lines, of_rows, of_columns, data]) => {
-            let answer = on.change_line(rows, columns, lines, of_rows, of_columns, call.n, data);
-            (answer, 0)
+            let (answer, number) =
+                on.change_line(rows, columns, lines, of_rows, of_columns, call.n, data);
+            (answer, 0, number)
         }
         (Entry::Repair, [out, marks, lines, of_rows, of_columns]) => {
             on.repair(rows, columns, lines, of_rows, of_columns, out, marks)
         }
         _ => panic!("{entry:?} has other buffers"),
+    };
+    Numbers {
+        answer,
+        value,
+        number,
     }
 }
 
@@ -92,45 +107,53 @@ fn guarded(entry: Entry, call: &Call, on: &dyn Interface, shift: usize) -> Given
         guarded.push(Guarded::new(content, shift + 5 * i));
     }
     let mut contents: Vec<&mut [u8]> = guarded.iter_mut().map(Guarded::content_mut).collect();
-    let (answer, number) = make(entry, call, on, &mut contents);
+    let numbers = make(entry, call, on, &mut contents);
     let name = on.name();
     assert!(
         guarded.iter().all(Guarded::intact),
         "{name}, {entry:?}: a guard byte was written"
     );
     Given {
-        answer,
-        number,
+        numbers,
         buffers: guarded.iter().map(|g| g.content().to_vec()).collect(),
     }
 }
 
-/// Makes the call on both implementations; gives the answer.
+/// Makes the call on both implementations; gives the answer and the number of a
+/// bad row or column.
 ///
 /// # Panics
 ///
-/// Panics where they differ in anything, where a guard byte or a buffer that
-/// is only read was written, or where a refusal wrote something.
-pub fn compare(entry: Entry, call: &Call, shift: usize) -> u32 {
+/// Panics where they differ in anything, where the answer isn't one that the
+/// entry point may give, where a guard byte or a buffer that is only read was
+/// written, or where a refusal wrote something or gave a value.
+pub fn compare(entry: Entry, call: &Call, shift: usize) -> (u32, u64) {
     let library = guarded(entry, call, &Library, shift);
     let reference = guarded(entry, call, &Reference, shift);
     assert!(
         library == reference,
-        "{entry:?}, {} by {}: library answers {} {}, reference {} {}, buffers {}",
+        "{entry:?}, {} by {}: library gives {:?}, reference {:?}, buffers {}",
         call.rows,
         call.columns,
-        library.answer,
-        library.number,
-        reference.answer,
-        reference.number,
+        library.numbers,
+        reference.numbers,
         if library.buffers == reference.buffers {
             "equal"
         } else {
             "differ"
         },
     );
+    let Numbers {
+        answer,
+        value,
+        number,
+    } = library.numbers;
+    assert!(
+        entry.answers().contains(&answer),
+        "{entry:?} may not answer {answer}"
+    );
     let (before, written) = buffers(entry, call);
-    let writes = match library.answer {
+    let writes = match answer {
         0 | 11 | 12 => true,
         10 => entry == Entry::Read,
         _ => false,
@@ -139,13 +162,16 @@ pub fn compare(entry: Entry, call: &Call, shift: usize) -> u32 {
         let may_change = writes && i < written;
         assert!(
             may_change || library.buffers[i] == content,
-            "{entry:?}, answer {}: buffer {i} was written",
-            library.answer
+            "{entry:?}, answer {answer}: buffer {i} was written"
         );
     }
     assert!(
-        writes || library.number == 0,
-        "{entry:?}: a value after a refusal"
+        writes || value == 0,
+        "{entry:?}, answer {answer}: a value after a refusal"
     );
-    library.answer
+    assert!(
+        matches!(answer, 13 | 14) || number == 0,
+        "{entry:?}, answer {answer}: the number of a row or column"
+    );
+    (answer, number)
 }

@@ -21,7 +21,7 @@ pub trait Interface {
         column_table: &mut [u8],
     ) -> u32;
 
-    /// Changes a line.
+    /// Changes a line; gives the number of a bad row or column too.
     #[allow(clippy::too_many_arguments)]
     fn change_line(
         &self,
@@ -32,9 +32,9 @@ pub trait Interface {
         column_table: &mut [u8],
         n: usize,
         data: &[u8],
-    ) -> u32;
+    ) -> (u32, u64);
 
-    /// Repairs; gives the passes too.
+    /// Repairs; gives the passes and the number of a bad row or column too.
     #[allow(clippy::too_many_arguments)]
     fn repair(
         &self,
@@ -45,7 +45,7 @@ pub trait Interface {
         column_table: &[u8],
         out: &mut [u8],
         marks: &mut [u8],
-    ) -> (u32, u64);
+    ) -> (u32, u64, u64);
 }
 
 /// Both implementations, for tests that each has to pass.
@@ -89,7 +89,7 @@ impl Interface for Library {
         column_table: &mut [u8],
         n: usize,
         data: &[u8],
-    ) -> u32 {
+    ) -> (u32, u64) {
         sudoku::c::change_line(rows, columns, lines, row_table, column_table, n, data)
     }
 
@@ -102,7 +102,7 @@ impl Interface for Library {
         column_table: &[u8],
         out: &mut [u8],
         marks: &mut [u8],
-    ) -> (u32, u64) {
+    ) -> (u32, u64, u64) {
         sudoku::c::repair(rows, columns, lines, row_table, column_table, out, marks)
     }
 }
@@ -144,8 +144,9 @@ impl Interface for Reference {
         column_table: &mut [u8],
         n: usize,
         data: &[u8],
-    ) -> u32 {
-        reference::change_line(rows, columns, lines, row_table, column_table, n, data)
+    ) -> (u32, u64) {
+        let given = reference::change_line(rows, columns, lines, row_table, column_table, n, data);
+        (given.answer, given.number)
     }
 
     fn repair(
@@ -157,8 +158,8 @@ impl Interface for Reference {
         column_table: &[u8],
         out: &mut [u8],
         marks: &mut [u8],
-    ) -> (u32, u64) {
+    ) -> (u32, u64, u64) {
         let given = reference::repair(rows, columns, lines, row_table, column_table, out, marks);
-        (given.answer, given.passes)
+        (given.answer, given.passes, given.number)
     }
 }

@@ -21,6 +21,11 @@ pub fn cases(usual: usize) -> usize {
     (usual.saturating_mul(percent) / 100).max(1)
 }
 
+/// Whether no fewer cases are drawn than usual, so that rare ones come up.
+pub fn as_many_as_usual() -> bool {
+    cases(100) >= 100
+}
+
 /// Whether a memory checker watches, as the variable `SUDOKU_MEMCHECK` says:
 /// stores are then kept small, and buffers stand without guard bytes, since
 /// the checker sees reads outside them too.

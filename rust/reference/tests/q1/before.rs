@@ -9,7 +9,7 @@ use reference::{DATA_BYTES, LINE_BYTES};
 
 const FAULTY: u8 = 4;
 
-/// What repair gave for this store; none if it refused a parity line.
+/// What repair gave for this store; none if it refused a parity line, with 9.
 pub fn repaired(store: &Store) -> Option<Outcome> {
     let groups = groups(store);
     if !groups.iter().all(|group| line::correct(&group.parity)) {
@@ -34,6 +34,7 @@ pub fn repaired(store: &Store) -> Option<Outcome> {
     Some(Outcome {
         answer,
         passes,
+        number: 0,
         lines: held.lines.iter().flat_map(line::bytes).collect(),
         marks: held.marks,
     })

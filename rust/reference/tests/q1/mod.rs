@@ -58,6 +58,7 @@ fn expect_whole(
     let whole = Outcome {
         answer: 0,
         passes,
+        number: 0,
         lines: Store::zero(2, 2).lines,
         marks: marks.to_vec(),
     };
@@ -138,10 +139,13 @@ pub fn check_line(found: &[u8], (read, mark, answer): &Reading) {
 }
 
 /// The marks of a repair by the same words; lines, passes, answer and the
-/// marks from 2 on as before. Gives how many marks 0 have become 1.
+/// marks from 2 on as before, but that 9 is no longer given. Gives how many
+/// marks 0 have become 1.
 pub fn check_store(store: &Store, given: &Outcome) -> usize {
     let Some(before) = before::repaired(store) else {
-        assert_eq!(given.answer, 9);
+        // Request Q-2 has since split 9 into 13 and 14; which of them, and
+        // what comes with it, its own tests say.
+        assert!([13, 14].contains(&given.answer));
         return 0;
     };
     assert_eq!((given.answer, given.passes), (before.answer, before.passes));

@@ -21,12 +21,17 @@ fn store_of(drawn: &draw::Store) -> Store {
 #[test]
 fn numbers_and_names_of_answers_and_marks() {
     for number in 0..20 {
-        assert_eq!(Answer::from_number(number).number(), number);
-        assert_eq!(
-            number > 12,
-            matches!(Answer::from_number(number), Answer::Other(_))
-        );
+        let answer = Answer::from_numbers(number, 5);
+        assert_eq!(answer.number(), number);
+        // No answer is 9.
+        let unknown = number == 9 || number > 14;
+        assert_eq!(unknown, answer == Answer::Other(number));
     }
+    assert_eq!(Answer::from_numbers(13, 5), Answer::RowParity { row: 5 });
+    assert_eq!(
+        Answer::from_numbers(14, 511),
+        Answer::ColumnParity { column: 511 }
+    );
     for number in 0..=255 {
         assert_eq!(Mark::from_number(number).number(), number);
     }
@@ -54,7 +59,10 @@ fn repair_of_a_store() {
                 let marks: Vec<u8> = repaired.marks.iter().map(|mark| mark.number()).collect();
                 assert_eq!(marks, expected.marks);
             }
-            Err(answer) => assert_eq!(answer.number(), expected.answer),
+            Err(answer) => {
+                let expected = Answer::from_numbers(expected.answer, expected.number);
+                assert_eq!(answer, expected);
+            }
         }
     }
 }
@@ -111,8 +119,16 @@ fn bad_input_comes_back_as_an_answer() {
     assert_eq!(store.make_tables(), Err(Answer::Faulty));
     assert_eq!(store, before);
     store.column_table_mut()[0] ^= 1;
-    assert_eq!(store.change(2, &[1; 64]), Err(Answer::Parity));
-    assert_eq!(store.repair(), Err(Answer::Parity));
+    let bad_column = Answer::ColumnParity { column: 0 };
+    assert_eq!(store.change(2, &[1; 64]), Err(bad_column));
+    assert_eq!(store.repair(), Err(bad_column));
+    store.row_table_mut()[LINE_BYTES] ^= 1;
+    let bad_row = Answer::RowParity { row: 1 };
+    let before = store.clone();
+    assert_eq!(store.change(2, &[1; 64]), Err(bad_row));
+    assert_eq!(store.change(0, &[1; 64]), Err(bad_column));
+    assert_eq!(store.repair(), Err(bad_row));
+    assert_eq!(store, before);
 }
 
 #[test]

@@ -2,24 +2,18 @@
 //! line.
 
 use library_tests::{Interface, Library, cases, seed};
-use reference::draw::{self, Store};
+use reference::draw::{self, Outcome, Store};
 use reference::random::Random;
 use reference::{LINE_BYTES, PLACES, PROTECTED_PLACES};
 
-/// Repairs with the library; gives answer, passes, lines and marks.
+use crate::samples::{self, FILLING};
+
+/// Repairs a store whose parity lines are correct with the library; gives
+/// answer, passes, lines and marks.
 fn repaired(store: &Store) -> (u32, u64, Vec<u8>, Vec<u8>) {
-    let mut lines = vec![0x5A; store.lines.len()];
-    let mut marks = vec![0x5A; store.count()];
-    let (answer, passes) = Library.repair(
-        store.rows,
-        store.columns,
-        &store.lines,
-        &store.row_table,
-        &store.column_table,
-        &mut lines,
-        &mut marks,
-    );
-    (answer, passes, lines, marks)
+    let given = samples::repaired(&Library, store);
+    assert_eq!(given.number, 0);
+    (given.answer, given.passes, given.lines, given.marks)
 }
 
 #[test]
@@ -173,21 +167,36 @@ fn a_damaged_parity_line_is_refused_or_gone_by() {
     let written = Store::zero(2, 2);
     for bits in 1..256 {
         let places = some_of_eight(bits);
-        let mut hurt = written.clone();
-        draw::flip(&mut hurt.row_table, &places);
-        let (answer, _, lines, marks) = repaired(&hurt);
-        if places.len() < 8 {
-            assert_eq!(answer, 9, "places {places:?}");
-            assert!(lines.iter().chain(&marks).all(|&byte| byte == 0x5A));
-        } else {
-            assert_eq!((answer, marks), (12, vec![0; 4]));
+        let (mut row, mut column) = (written.clone(), written.clone());
+        row.hurt_row_parity(1, &places);
+        column.hurt_column_parity(1, &places);
+        for (hurt, refusal) in [(row, 13), (column, 14)] {
+            let expected = if places.len() < 8 {
+                Outcome {
+                    answer: refusal,
+                    passes: 0,
+                    number: 1,
+                    lines: vec![FILLING; 4 * LINE_BYTES],
+                    marks: vec![FILLING; 4],
+                }
+            } else {
+                Outcome {
+                    answer: 12,
+                    passes: 0,
+                    number: 0,
+                    lines: written.lines.clone(),
+                    marks: vec![0; 4],
+                }
+            };
+            let given = samples::repaired(&Library, &hurt);
+            assert_eq!(given, expected, "places {places:?}");
         }
     }
     // Both parity lines of line 0 are those of another line: it is rebuilt as
     // that one, and nothing tells.
     let mut hurt = written.clone();
-    draw::flip(&mut hurt.row_table, &EIGHT);
-    draw::flip(&mut hurt.column_table, &EIGHT);
+    hurt.hurt_row_parity(0, &EIGHT);
+    hurt.hurt_column_parity(0, &EIGHT);
     hurt.hurt(0, &[0, 1]);
     let (answer, passes, lines, marks) = repaired(&hurt);
     assert_eq!((answer, passes, marks), (0, 1, vec![3, 0, 0, 0]));

@@ -6,32 +6,48 @@
 
 use std::collections::BTreeMap;
 
-use library_tests::{Entry, cases, compare, seed, watched};
-use reference::draw::{self, Call, Damage, Store};
+use library_tests::{Entry, as_many_as_usual, cases, compare, seed, watched};
+use reference::PLACES;
+use reference::draw::{self, Call, Damage, Store, call_on};
 use reference::random::Random;
-use reference::{LINE_BYTES, PLACES};
 
-/// How often each entry point gave each answer.
+/// How often each entry point gave each answer, with a number of a row or
+/// column that isn't 0 and without.
 #[derive(Default)]
-struct Tally(BTreeMap<(Entry, u32), usize>);
+struct Tally(BTreeMap<(Entry, u32), [usize; 2]>);
 
 impl Tally {
     /// Compares one call and counts it.
     fn compare(&mut self, entry: Entry, call: &Call, random: &mut Random) -> u32 {
-        let answer = compare(entry, call, random.below(16));
-        *self.0.entry((entry, answer)).or_default() += 1;
+        let (answer, number) = compare(entry, call, random.below(16));
+        self.0.entry((entry, answer)).or_default()[usize::from(number != 0)] += 1;
         answer
+    }
+
+    /// How often this entry point gave this answer: with number 0, and with
+    /// another.
+    fn count(&self, entry: Entry, answer: u32) -> [usize; 2] {
+        self.0.get(&(entry, answer)).copied().unwrap_or_default()
     }
 
     /// Prints the count of cases, and how often each answer came up.
     fn print(&self, name: &str) {
-        let total: usize = self.0.values().sum();
+        let total: usize = self.0.values().flatten().sum();
         println!("differential, {name}: {total} cases");
         for entry in Entry::ALL {
-            let answers: Vec<String> = (0..=12)
-                .filter_map(|answer| Some((answer, self.0.get(&(entry, answer))?)))
-                .map(|(answer, count)| format!("{answer}: {count}"))
-                .collect();
+            let mut answers: Vec<String> = vec![];
+            for &answer in entry.answers() {
+                match self.count(entry, answer) {
+                    [0, 0] => {}
+                    [count, 0] => answers.push(format!("{answer}: {count}")),
+                    [zero, other] => {
+                        let count = zero + other;
+                        answers.push(format!(
+                            "{answer}: {count} ({other} not of row or column 0)"
+                        ));
+                    }
+                }
+            }
             if !answers.is_empty() {
                 println!("    {entry:?} answers {}", answers.join(", "));
             }
@@ -47,34 +63,19 @@ impl Tally {
             }
         }
     }
-}
 
-/// A call over this store with right sides and lengths, and drawn content in
-/// the buffers that are only written.
-fn call_on(random: &mut Random, store: Store) -> Call {
-    let n = random.below(store.count());
-    let mut call = Call {
-        rows: store.rows,
-        columns: store.columns,
-        line: store.line(n).to_vec(),
-        out: vec![0; store.lines.len()],
-        marks: vec![0; store.count()],
-        lines: store.lines,
-        row_table: store.row_table,
-        column_table: store.column_table,
-        n,
-        data: vec![0; 64],
-        line_out: vec![0; LINE_BYTES],
-    };
-    for buffer in [
-        &mut call.out,
-        &mut call.marks,
-        &mut call.data,
-        &mut call.line_out,
-    ] {
-        random.fill(buffer);
+    /// Bad rows and bad columns came up, the first of each and others.
+    fn expect_bad_parity(&self) {
+        for entry in [Entry::Change, Entry::Repair] {
+            for answer in [13, 14] {
+                let [zero, other] = self.count(entry, answer);
+                assert!(
+                    zero > 0 && other > 0,
+                    "{entry:?}, answer {answer}: {zero} of row or column 0, {other} of others"
+                );
+            }
+        }
     }
-    call
 }
 
 /// Compares what tables, change and repair give for this store.
@@ -100,6 +101,9 @@ fn drawn_calls_agree() {
     if !watched() {
         tally.expect_all_answers();
     }
+    if as_many_as_usual() {
+        tally.expect_bad_parity();
+    }
 }
 
 #[test]
@@ -120,6 +124,9 @@ fn every_damage_agrees() {
         }
     }
     tally.print("every damage");
+    if as_many_as_usual() {
+        tally.expect_bad_parity();
+    }
 }
 
 #[test]
@@ -190,7 +197,7 @@ fn changes_keep_the_tables() {
             let call = call_on(&mut random, hurt);
             assert_eq!(tally.compare(Entry::Change, &call, &mut random), 0);
             let (of_rows, of_columns) = (&mut store.row_table, &mut store.column_table);
-            let answer = sudoku::c::change_line(
+            let given = sudoku::c::change_line(
                 rows,
                 columns,
                 &mut store.lines,
@@ -199,7 +206,7 @@ fn changes_keep_the_tables() {
                 call.n,
                 &call.data,
             );
-            assert_eq!(answer, 0);
+            assert_eq!(given, (0, 0));
             let mut anew = store.clone();
             assert_eq!(anew.tables_anew(), 0);
             assert!(anew == store, "not the tables made anew");

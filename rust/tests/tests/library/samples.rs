@@ -5,7 +5,9 @@ use reference::LINE_BYTES;
 use reference::draw::{Outcome, Store, flip, staircase};
 use reference::random::Random;
 
-const FILLING: u8 = 0xEE;
+/// What buffers that are only written hold before.
+pub const FILLING: u8 = 0xEE;
+
 const ZERO_LINE: [u8; LINE_BYTES] = [0; LINE_BYTES];
 
 /// The line whose only data place set is 511.
@@ -34,7 +36,7 @@ pub fn read(on: &dyn Interface, line: &[u8]) -> (Vec<u8>, u8, u32) {
 pub fn repaired(on: &dyn Interface, store: &Store) -> Outcome {
     let mut lines = Guarded::new(&vec![FILLING; store.lines.len()], 1);
     let mut marks = Guarded::new(&vec![FILLING; store.count()], 7);
-    let (answer, passes) = on.repair(
+    let (answer, passes, number) = on.repair(
         store.rows,
         store.columns,
         &store.lines,
@@ -47,6 +49,7 @@ pub fn repaired(on: &dyn Interface, store: &Store) -> Outcome {
     Outcome {
         answer,
         passes,
+        number,
         lines: lines.content().to_vec(),
         marks: marks.content().to_vec(),
     }
@@ -147,7 +150,7 @@ fn answers_for_sides(on: &dyn Interface, rows: usize, columns: usize) -> [u32; 3
         let mut out = vec![FILLING; r * c * LINE_BYTES];
         let mut marks = vec![FILLING; r * c];
         let (of_rows, of_columns) = (&store.row_table, &store.column_table);
-        let (answer, passes) = on.repair(
+        let (answer, passes, number) = on.repair(
             rows,
             columns,
             &store.lines,
@@ -156,7 +159,7 @@ fn answers_for_sides(on: &dyn Interface, rows: usize, columns: usize) -> [u32; 3
             &mut out,
             &mut marks,
         );
-        assert_eq!(passes, 0);
+        assert_eq!((passes, number), (0, 0));
         let untouched = out.iter().chain(&marks).all(|&byte| byte == FILLING);
         assert_eq!(untouched, answer != 0);
         answer
@@ -166,7 +169,7 @@ fn answers_for_sides(on: &dyn Interface, rows: usize, columns: usize) -> [u32; 3
     let tables = on.make_tables(rows, columns, &made.lines, of_rows, of_columns);
     assert!(made == store);
     let (of_rows, of_columns) = (&mut made.row_table, &mut made.column_table);
-    let change = on.change_line(
+    let (change, number) = on.change_line(
         rows,
         columns,
         &mut made.lines,
@@ -175,7 +178,7 @@ fn answers_for_sides(on: &dyn Interface, rows: usize, columns: usize) -> [u32; 3
         0,
         &[1; 64],
     );
-    assert_eq!(made == store, change != 0);
+    assert_eq!((made == store, number), (change != 0, 0));
     [tables, change, repair]
 }
 
