@@ -1,6 +1,6 @@
-//! The library against document 01's samples, against the words of request Q-1
-//! and against the second implementation. All tests are one binary, so that it
-//! can be run once more under a memory checker.
+//! The library against document 01's samples, against the words of requests Q-1
+//! and Q-2 and against the second implementation. All tests are one binary, so
+//! that it can be run once more under a memory checker.
 //!
 //! `SUDOKU_PERCENT` sets how many cases are drawn, in percent of the usual
 //! number, `SUDOKU_SEED` the seed, and `SUDOKU_MEMCHECK` says that a memory
@@ -10,5 +10,6 @@ mod crate_over_c;
 mod demands;
 mod differential;
 mod marks;
+mod parity;
 mod samples;
 mod storecheck;

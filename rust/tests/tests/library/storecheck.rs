@@ -10,6 +10,7 @@ use reference::draw::{self, Store};
 use reference::random::Random;
 
 use crate::marks::q1;
+use crate::parity::q2;
 
 /// Where the program is built: `target/bin/storecheck` of the repository, or
 /// what `SUDOKU_STORECHECK` says.
@@ -69,6 +70,13 @@ fn storecheck_agrees() {
 fn hamming_bits_count_under_alone() {
     let (store, report) = q1::report();
     assert_eq!(printed(&program(), &store.file()), report);
+}
+
+#[test]
+fn a_bad_parity_line_gives_its_answer_alone() {
+    for (store, report) in q2::reports() {
+        assert_eq!(printed(&program(), &store.file()), report);
+    }
 }
 
 #[test]

@@ -1,0 +1,467 @@
+//! What request Q-2 says of bad parity lines: 13 with the first bad row, or
+//! else 14 with the first bad column, stand in 9's place. A change tests its own
+//! row and column alone. With every other answer the number is 0.
+//!
+//! Everything here takes what an implementation gives, so that the tests of
+//! the library and of the peer use it too.
+
+use reference::draw::{self, Call, Store, call_on, flip};
+use reference::line::{SPARE, bytes, correct, exclusive_or, places};
+use reference::random::Random;
+use reference::{DATA_BYTES, LINE_BYTES, PLACES, write_line};
+
+/// What a call gives: its answer, the number of a row or column, the passes (0
+/// for a change), and all that was handed in, as it is after.
+#[derive(Clone, Debug, PartialEq, Eq)]
+pub struct Given {
+    pub answer: u32,
+    pub number: u64,
+    pub passes: u64,
+    pub after: Call,
+}
+
+/// A refusal: nothing is written, and no pass is made.
+fn refused(call: &Call, (answer, number): (u32, usize)) -> Given {
+    Given {
+        answer,
+        number: number as u64,
+        passes: 0,
+        after: call.clone(),
+    }
+}
+
+/// Repair of correct lines that agree with their tables, spare bits 0.
+fn repaired(call: &Call) -> Given {
+    let mut after = call.clone();
+    after.out.clone_from(&call.lines);
+    after.marks.fill(0);
+    Given {
+        answer: 0,
+        number: 0,
+        passes: 0,
+        after,
+    }
+}
+
+/// A change of a correct line: the exclusive or of old and new line goes into
+/// both its parity lines; the three have spare bits 0.
+fn changed(call: &Call) -> Given {
+    let mut new = [0; LINE_BYTES];
+    write_line(&call.data, &mut new);
+    let old = places(line_of(&call.lines, call.n));
+    let change = bytes(&exclusive_or(&old, &places(&new)));
+    let mut after = call.clone();
+    let put = |into: &mut [u8], n: usize, line: &[u8]| {
+        into[n * LINE_BYTES..][..LINE_BYTES].copy_from_slice(line);
+    };
+    put(&mut after.lines, call.n, &new);
+    let (row, column) = (call.n / call.columns, call.n % call.columns);
+    for (table, n) in [
+        (&mut after.row_table, row),
+        (&mut after.column_table, column),
+    ] {
+        let sum = exclusive_or(&places(line_of(table, n)), &places(&change));
+        put(table, n, &bytes(&sum));
+    }
+    Given {
+        answer: 0,
+        number: 0,
+        passes: 0,
+        after,
+    }
+}
+
+/// The bytes of the nth line.
+fn line_of(bytes: &[u8], n: usize) -> &[u8] {
+    &bytes[n * LINE_BYTES..][..LINE_BYTES]
+}
+
+/// A call gave this, to every byte.
+#[track_caller]
+fn expect(given: &Given, expected: &Given, what: &str) {
+    let numbers = |of: &Given| (of.answer, of.number, of.passes);
+    assert_eq!(numbers(given), numbers(expected), "{what}");
+    assert!(given.after == expected.after, "{what}: other bytes");
+}
+
+/// A store of correct lines with their tables, in which just these rows' and
+/// columns' parity lines are bad; both rise.
+pub struct Spoilt {
+    store: Store,
+    rows: Vec<usize>,
+    columns: Vec<usize>,
+}
+
+impl Spoilt {
+    /// These parity lines of a store are hurt, each at places that are drawn for
+    /// it. Correct lines differ in eight places or more, so one to seven make
+    /// it bad.
+    fn new(
+        written: &Store,
+        rows: Vec<usize>,
+        columns: Vec<usize>,
+        mut drawn: impl FnMut() -> Vec<usize>,
+    ) -> Spoilt {
+        let mut store = written.clone();
+        for &row in &rows {
+            store.hurt_row_parity(row, &drawn());
+        }
+        for &column in &columns {
+            store.hurt_column_parity(column, &drawn());
+        }
+        Spoilt {
+            store,
+            rows,
+            columns,
+        }
+    }
+
+    fn call(&self) -> Call {
+        call_on(&mut Random::new(2), self.store.clone())
+    }
+
+    fn name(&self) -> String {
+        let sides = (self.store.rows, self.store.columns);
+        let (rows, columns) = (&self.rows, &self.columns);
+        format!("sides {sides:?}, bad rows {rows:?}, bad columns {columns:?}")
+    }
+
+    /// Repair tests all rows, then all columns, and gives the first bad one.
+    pub fn expect_repair(&self, repair: impl Fn(&Call) -> Given) {
+        let call = self.call();
+        let expected = match (self.rows.first(), self.columns.first()) {
+            (Some(&row), _) => refused(&call, (13, row)),
+            (None, Some(&column)) => refused(&call, (14, column)),
+            (None, None) => repaired(&call),
+        };
+        expect(&repair(&call), &expected, &self.name());
+    }
+
+    /// A change tests its own row, then its own column, and no other.
+    pub fn expect_changes(&self, change: impl Fn(&Call) -> Given) {
+        let mut call = self.call();
+        // Repair's buffers, which a change doesn't take.
+        (call.out, call.marks) = (vec![], vec![]);
+        for n in self.lines_to_change() {
+            call.n = n;
+            let (row, column) = (n / self.store.columns, n % self.store.columns);
+            let expected = if self.rows.contains(&row) {
+                refused(&call, (13, row))
+            } else if self.columns.contains(&column) {
+                refused(&call, (14, column))
+            } else {
+                changed(&call)
+            };
+            let what = format!("{}, line {n}", self.name());
+            expect(&change(&call), &expected, &what);
+        }
+    }
+
+    /// All lines of a small store; of a large one those of the bad rows, row 0
+    /// and the last row that stand in the bad columns, column 0 or the last.
+    fn lines_to_change(&self) -> Vec<usize> {
+        let (rows, columns) = (self.store.rows, self.store.columns);
+        if rows * columns <= 16 {
+            return (0..rows * columns).collect();
+        }
+        let chosen =
+            |n: usize, bad: &[usize], side: usize| bad.contains(&n) || n == 0 || n == side - 1;
+        let in_both = |n: &usize| {
+            chosen(n / columns, &self.rows, rows) && chosen(n % columns, &self.columns, columns)
+        };
+        (0..rows * columns).filter(in_both).collect()
+    }
+}
+
+/// Every set of bad rows with every set of bad columns: none, each alone, some
+/// of one table, some of both.
+pub fn every_set() -> impl Iterator<Item = Spoilt> {
+    [(2, 2), (2, 3), (4, 2), (3, 4)]
+        .into_iter()
+        .flat_map(|(rows, columns)| {
+            let mut random = Random::new(13);
+            let written = Store::random(&mut random, rows, columns);
+            (0..1usize << (rows + columns)).map(move |bits| {
+                let set = |bits: usize, side| (0..side).filter(|i| bits >> i & 1 == 1).collect();
+                let (bad_rows, bad_columns) = (set(bits, rows), set(bits >> rows, columns));
+                Spoilt::new(&written, bad_rows, bad_columns, || {
+                    let count = random.between(1, 7);
+                    draw::places(&mut random, count)
+                })
+            })
+        })
+}
+
+/// Every place of a parity line hurt alone: data, CRC and Hamming bits alike.
+pub fn every_place() -> impl Iterator<Item = Spoilt> {
+    let written = Store::random(&mut Random::new(14), 2, 2);
+    (0..PLACES).flat_map(move |place| {
+        let spoilt = |rows: &[usize], columns: &[usize]| {
+            Spoilt::new(&written, rows.to_vec(), columns.to_vec(), || vec![place])
+        };
+        [spoilt(&[1], &[]), spoilt(&[], &[1])]
+    })
+}
+
+/// Spare bits of all parity lines set in every way: they make no line bad, and
+/// they don't hide one that is.
+pub fn spare_bits() -> impl Iterator<Item = Spoilt> {
+    let written = Store::random(&mut Random::new(15), 2, 2);
+    (1..1usize << SPARE.len()).flat_map(move |bits| {
+        let mut spare = written.clone();
+        for table in [&mut spare.row_table, &mut spare.column_table] {
+            for line in table.chunks_exact_mut(LINE_BYTES) {
+                for (i, (byte, bit)) in SPARE.into_iter().enumerate() {
+                    line[byte] |= u8::from(bits >> i & 1 == 1) << bit;
+                }
+            }
+        }
+        let spoilt = |rows: &[usize], columns: &[usize]| {
+            Spoilt::new(&spare, rows.to_vec(), columns.to_vec(), || vec![552])
+        };
+        [
+            spoilt(&[], &[]),
+            spoilt(&[1], &[]),
+            spoilt(&[], &[1]),
+            spoilt(&[1], &[0]),
+        ]
+    })
+}
+
+/// Bad rows and columns of stores with a side, or both, of so many lines, more
+/// than 256: the last ones, and those where a number needs a second byte.
+pub fn large(side: usize) -> impl Iterator<Item = Spoilt> {
+    let last = side - 1;
+    let cases = [
+        ((side, 2), vec![255], vec![]),
+        ((side, 2), vec![256, last], vec![1]),
+        ((side, 2), vec![last], vec![]),
+        ((2, side), vec![], vec![255]),
+        ((2, side), vec![], vec![256, last]),
+        ((2, side), vec![1], vec![last]),
+        ((side, side), vec![last], vec![last]),
+        ((side, side), vec![], vec![last]),
+    ];
+    cases
+        .into_iter()
+        .map(|((rows, columns), bad_rows, bad_columns)| {
+            let written = Store::zero(rows, columns);
+            Spoilt::new(&written, bad_rows, bad_columns, || vec![0, 511])
+        })
+}
+
+/// A call, and the answer and the number that it gives.
+pub type Case = (Call, u32, u64);
+
+/// A call given ever more to be refused for, from the last of the list up: each
+/// time that is what it is refused for.
+struct Ladder {
+    call: Call,
+    cases: Vec<Case>,
+}
+
+impl Ladder {
+    /// Begins with a 3 by 4 store, line 6, and nothing wrong.
+    fn new() -> Ladder {
+        let store = Store::random(&mut Random::new(16), 3, 4);
+        let mut call = call_on(&mut Random::new(17), store);
+        call.n = 6;
+        let mut ladder = Ladder {
+            call,
+            cases: vec![],
+        };
+        ladder.step(0, 0, |_| {});
+        ladder
+    }
+
+    fn step(&mut self, answer: u32, number: u64, spoil: impl Fn(&mut Call)) {
+        spoil(&mut self.call);
+        self.cases.push((self.call.clone(), answer, number));
+    }
+
+    /// Line 6 stands in row 1 and column 2; so do the bad parity lines.
+    fn bad_parity(&mut self) {
+        self.step(14, 2, |call| flip(&mut call.column_table[140..], &[543]));
+        self.step(13, 1, |call| flip(&mut call.row_table[70..], &[543]));
+    }
+
+    fn wrong_sizes(&mut self) {
+        self.step(6, 0, |call| call.column_table.truncate(279));
+        self.step(6, 0, |call| call.row_table.push(0));
+        self.step(5, 0, |call| call.lines.truncate(839));
+        self.step(2, 0, |call| call.columns = 1);
+        self.step(2, 0, |call| call.rows = 513);
+    }
+}
+
+/// Changes for every answer; whatever fits later in the list is wrong too.
+pub fn changes_in_order() -> Vec<Case> {
+    let mut ladder = Ladder::new();
+    ladder.step(10, 0, |call| flip(&mut call.lines[6 * 70..], &[0, 1]));
+    ladder.bad_parity();
+    ladder.step(8, 0, |call| call.n = 12);
+    ladder.step(8, 0, |call| call.n = usize::MAX);
+    ladder.step(7, 0, |call| call.data.truncate(63));
+    ladder.wrong_sizes();
+    ladder.cases
+}
+
+/// Repairs for every answer, likewise.
+pub fn repairs_in_order() -> Vec<Case> {
+    let mut ladder = Ladder::new();
+    // Line 11 is a correct line, but not the one written.
+    ladder.step(12, 0, |call| {
+        let line = line_of(&call.lines, 11);
+        let mut data = [0; DATA_BYTES];
+        data.copy_from_slice(&line[..DATA_BYTES]);
+        data[0] ^= 1;
+        write_line(&data, &mut call.lines[11 * 70..]);
+    });
+    // Four lines of two rows and two columns, hurt alike.
+    ladder.step(11, 0, |call| {
+        for n in [0, 1, 4, 5] {
+            flip(&mut call.lines[n * 70..], &[0, 1]);
+        }
+    });
+    ladder.bad_parity();
+    ladder.step(7, 0, |call| call.marks.push(0));
+    ladder.step(7, 0, |call| call.out.truncate(839));
+    ladder.wrong_sizes();
+    ladder.cases
+}
+
+/// These calls give their answers and numbers; a refusal writes nothing.
+pub fn expect_cases(cases: &[Case], make: impl Fn(&Call) -> Given) {
+    for (call, answer, number) in cases {
+        let given = make(call);
+        assert_eq!((given.answer, given.number), (*answer, *number));
+        if ![0, 11, 12].contains(answer) {
+            assert_eq!(given.passes, 0, "answer {answer}");
+            assert!(given.after == *call, "answer {answer}: other bytes");
+        }
+    }
+}
+
+/// 2 by 2 stores and their reports: of a bad parity line the answer alone.
+pub fn reports() -> Vec<(Store, &'static str)> {
+    let stores: [(&[usize], &[usize], _); 7] = [
+        (&[0], &[], "answer 13\n"),
+        (&[1], &[], "answer 13\n"),
+        (&[], &[0], "answer 14\n"),
+        (&[], &[1], "answer 14\n"),
+        (&[0, 1], &[0, 1], "answer 13\n"),
+        (&[1], &[0], "answer 13\n"),
+        (&[], &[0, 1], "answer 14\n"),
+    ];
+    let zero = Store::zero(2, 2);
+    stores
+        .map(|(rows, columns, report)| {
+            let places = || vec![542];
+            let mut spoilt = Spoilt::new(&zero, rows.to_vec(), columns.to_vec(), places);
+            // Lines are not looked at before the parity lines.
+            (0..4).for_each(|n| spoilt.store.hurt(n, &[0, 1]));
+            (spoilt.store, report)
+        })
+        .into()
+}
+
+/// A drawn call, right or wrong, often with bad parity lines.
+pub fn drawn_call(random: &mut Random, most: usize) -> Call {
+    let mut call = draw::call(random, most);
+    if random.once_in(2) {
+        for _ in 0..random.between(1, 4) {
+            let count = random.between(1, 7);
+            let places = draw::places(random, count);
+            let table = if random.once_in(2) {
+                &mut call.row_table
+            } else {
+                &mut call.column_table
+            };
+            let side = table.len() / LINE_BYTES;
+            if side > 0 {
+                flip(&mut table[random.below(side) * LINE_BYTES..], &places);
+            }
+        }
+    }
+    call
+}
+
+/// Whether sides, lines and tables are such that no refusal up to 6 fits.
+fn sizes_fit(call: &Call) -> bool {
+    let side = |side: usize| (2..=512).contains(&side);
+    side(call.rows)
+        && side(call.columns)
+        && call.lines.len() == call.rows * call.columns * LINE_BYTES
+        && call.row_table.len() == call.rows * LINE_BYTES
+        && call.column_table.len() == call.columns * LINE_BYTES
+}
+
+fn is_bad(table: &[u8], n: usize) -> bool {
+    !correct(&places(line_of(table, n)))
+}
+
+/// What a drawn repair gave, by the request's words.
+pub fn check_repair(call: &Call, given: &Given) {
+    let (rows, columns) = (call.rows, call.columns);
+    let due = sizes_fit(call)
+        && call.out.len() == rows * columns * LINE_BYTES
+        && call.marks.len() == rows * columns;
+    let mut bad = None;
+    if due {
+        let row = (0..rows).find(|&row| is_bad(&call.row_table, row));
+        let column = (0..columns).find(|&column| is_bad(&call.column_table, column));
+        bad = row
+            .map(|row| (13, row))
+            .or(column.map(|column| (14, column)));
+    }
+    check(call, given, bad);
+}
+
+/// What a drawn change gave, by the request's words.
+pub fn check_change(call: &Call, given: &Given) {
+    let due = sizes_fit(call) && call.data.len() == DATA_BYTES && call.n < call.rows * call.columns;
+    let mut bad = None;
+    if due {
+        let (row, column) = (call.n / call.columns, call.n % call.columns);
+        if is_bad(&call.row_table, row) {
+            bad = Some((13, row));
+        } else if is_bad(&call.column_table, column) {
+            bad = Some((14, column));
+        }
+    }
+    check(call, given, bad);
+}
+
+fn check(call: &Call, given: &Given, bad: Option<(u32, usize)>) {
+    if let Some(bad) = bad {
+        expect(given, &refused(call, bad), "a bad parity line");
+        return;
+    }
+    let answer = given.answer;
+    assert!(![9, 13, 14].contains(&answer), "answer {answer}");
+    assert_eq!(given.number, 0, "answer {answer}");
+}
+
+/// How often drawn calls gave 13 and 14, for row or column 0 and for others.
+#[derive(Debug, Default)]
+pub struct Seen {
+    rows: [usize; 2],
+    columns: [usize; 2],
+}
+
+impl Seen {
+    pub fn count(&mut self, given: &Given) {
+        let counts = match given.answer {
+            13 => &mut self.rows,
+            14 => &mut self.columns,
+            _ => return,
+        };
+        counts[usize::from(given.number != 0)] += 1;
+    }
+
+    /// All of them came up so often.
+    pub fn expect(&self, least: usize) {
+        let all = self.rows.iter().chain(&self.columns);
+        assert!(all.into_iter().all(|&count| count >= least), "{self:?}");
+    }
+}
