@@ -1,6 +1,6 @@
 #!/bin/sh
 # The launcher and the program as people use them: the examples, bad calls, input in pieces, how much is read, input and output
-# that fail, the examples of docs/FORMAT.md, and building.
+# that fail, the examples of docs/FORMAT.md, bad parity lines, and building.
 set -u
 cd "$(dirname "$0")/.."
 room=$(mktemp -d)
@@ -131,6 +131,28 @@ head -c 210 /dev/zero >"$room/210"
 head -c 70 /dev/zero >"$room/70"
 cat "$room/header" "$room/line" "$room/210" "$room/line" "$room/70" "$room/line" "$room/70" >"$room/caption"
 same "the line of docs/FORMAT.md" "$(cat crates/storecheck/stdout)" "$(bin/storecheck "$room/caption")"
+
+# The store of zero bytes with the first bit of some bytes set: row 0's parity line begins at byte 308, column 0's at byte 448.
+with_bits() { # OFFSET..
+    cp "$room/zero" "$room/parity"
+    for at; do
+        printf '\001' | dd of="$room/parity" bs=1 seek="$at" conv=notrunc 2>/dev/null
+    done
+    bin/storecheck "$room/parity" 2>"$room/said"
+    echo "status $?, $(wc -c <"$room/said") bytes said"
+}
+quiet="status 0, 0 bytes said"
+same "row 0's parity line is bad" "answer 13${nl}$quiet" "$(with_bits 308)"
+same "row 1's parity line is bad" "answer 13${nl}$quiet" "$(with_bits 378)"
+same "column 0's parity line is bad" "answer 14${nl}$quiet" "$(with_bits 448)"
+same "column 1's parity line is bad" "answer 14${nl}$quiet" "$(with_bits 518)"
+same "a row's and a column's parity line are bad" "answer 13${nl}$quiet" "$(with_bits 378 448)"
+same "a bad row and lines that cannot be mended" "answer 13${nl}$quiet" "$(with_bits 28 29 98 99 168 169 238 239 378)"
+same "a bad column on standard input" "answer 14" "$(with_bits 518 >/dev/null; bin/storecheck <"$room/parity")"
+for answer in 1 2 3 4 13 14 11 12; do
+    same "answer $answer in the help" 1 "$(bin/storecheck --help | grep -c "^    $answer  ")"
+done
+same "answer 9 in the help" 0 "$(bin/storecheck --help | grep -c "^    9 ")"
 
 # The store of zero bytes with place 543 of line 0 hurt, a Hamming bit: bit 0 of byte 68. The line mends itself.
 { cat "$room/header"; head -c 68 /dev/zero; printf '\001'; head -c 491 /dev/zero; } >"$room/hamming"
