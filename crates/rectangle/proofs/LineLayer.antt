@@ -1,7 +1,7 @@
 -- The line code as the layer that repair sees. No other file above it opens reading, writing or the test of a correct line: each law
 -- here goes from what the functions below give, in bytes, to line n, or to a group's parity line.
 use mathlib.Core.Path.{_≡_, refl, sym, ap, _∙_, subst}
-use mathlib.Core.Logic.{_⊎_, inl, inr}
+use mathlib.Core.Logic.{_⊎_, _↔_, inl, inr}
 use mathlib.Core.Bool.{true}
 use mathlib.Core.List.{List}
 use Prim.Native.Nat.{ℕ, suc-le-suc}
@@ -75,7 +75,12 @@ pub tested-as : (g : Group) (line : List ℕ) → g .parity ≡ places line → 
 unfolding parityCorrect isCorrectUnder
 tested-as g line e = ap isCorrect (sym e)
 
--- a parity line that has the places of a correct line passes
+-- a parity line passes exactly if it is a correct line
+pub parity-tests : (g : Group) → (parityCorrect g ≡ true) ↔ lineLayer .Correct (parityAddress lineLayer (g .members)) (g .parity)
+unfolding parityCorrect isCorrectUnder CorrectUnder
+parity-tests g = promises .tests (g .parity)
+
+-- and so where it has the places of one
 pub parity-passes : (g : Group) (w : Word) → g .parity ≡ w → lineLayer .Correct (parityAddress lineLayer (g .members)) w
     → parityCorrect g ≡ true
 unfolding parityCorrect isCorrectUnder CorrectUnder

@@ -1,20 +1,21 @@
 -- The three entry points without their choice: what a call that is not refused gives, and what a refused one leaves.
 use mathlib.Core.Path.{_≡_, refl, _∙_}
 use mathlib.Core.Logic.{_⊎_, inl, inr}
-use mathlib.Core.Bool.{Bool, true, false, cond, _&&_}
-use mathlib.Core.List.{List}
-use Prim.Native.Nat.{ℕ, zero, suc, _*_, _/_, _%_, _≤_}
+use mathlib.Core.Bool.{Bool, true, false, not, cond, _&&_, _||_}
+use mathlib.Core.List.{List, [], _∷_}
+use Prim.Native.Nat.{ℕ, zero, suc, _*_, _/_, _%_}
 use native.Mathlib.Omega.{arith}
-use borrow.Author.Tests.{ne-eqb}
-use lib.Dec.{eqb, lit≤}
+use borrow.Author.Tests.{ne-eqb, not-true}
+use lib.Dec.{eqb}
 use lib.ListN.{length}
 use Rattle.scheme.specs.Visit.{Group, State}
 use Rattle.scheme.specs.Repair.{faultyCount, agrees, answer}
-use Rattle.rectangle.specs.Store.{putLine, groups}
-use Rattle.rectangle.specs.Refusals.{unless, every, sidesFit, holds, tablesFit, parityCorrect, tablesRefusal, changeRefusal, repairRefusal}
+use Rattle.rectangle.specs.Store.{putLine, rowGroups, columnGroups, groups}
+use Rattle.rectangle.specs.Refusals.{every, sidesFit, holds, tablesFit, parityCorrect, tablesRefusal, changeRefusal, repairRefusal, numberWith}
 use Rattle.rectangle.specs.Tables.{rowTableOf, columnTableOf, makeTables}
 use Rattle.rectangle.specs.Change.{newLine, difference, addTo, changeLine}
-use Rattle.rectangle.specs.Repair.{repaired, handsOver, handedOver, repairStore}
+use Rattle.rectangle.specs.Repair.{repaired, handsOver, handedOver, repairNumber, repairStore}
+use Rattle.rectangle.proofs.Tests.{refusal-among}
 
 -- a refusal is 0 or not
 pub zero-or-not : (n : ℕ) → (n ≡ 0) ⊎ (n ≡ 0 → ⊥)
@@ -31,27 +32,24 @@ answer-hands-over gs s = go (eqb (faultyCount s) 0) (agrees gs s)
     go true false = refl
     go false agree = refl
 
--- numbers from 1 to 10 do not, nor does any of several refusals if none does
-up-to-ten : (n : ℕ) → n ≤ 10 → (n ≡ 0 → ⊥) → handsOver n ≡ false
-unfolding handsOver
-up-to-ten n h d = rw (ne-eqb n 0 d, ne-eqb n 11 (λ e. omega arith), ne-eqb n 12 (λ e. omega arith))
-
-unless-hands-nothing : (b : Bool) (refusal next : ℕ) → handsOver refusal ≡ false → ((next ≡ 0 → ⊥) → handsOver next ≡ false)
-    → (unless b refusal next ≡ 0 → ⊥) → handsOver (unless b refusal next) ≡ false
-unless-hands-nothing true refusal next h later d = later d
-unless-hands-nothing false refusal next h later d = h
-
 module _ (rows columns : ℕ) (lines rowTable columnTable : List ℕ) where
+  -- and no refusal does
+  nothing : (n : ℕ) → (n ≡ 0 → ⊥) → eqb n 0 || not (handsOver n) ≡ true → handsOver n ≡ false
+  nothing n d e = not-true _ (rw (ne-eqb n 0 d) at e)
+
   pub refusal-hands-nothing : (out marks : List ℕ) → (repairRefusal rows columns lines rowTable columnTable out marks ≡ 0 → ⊥)
       → handsOver (repairRefusal rows columns lines rowTable columnTable out marks) ≡ false
   unfolding repairRefusal handsOver
-  refusal-hands-nothing out marks =
-      unless-hands-nothing (sidesFit rows columns) 2 _ refl
-      (unless-hands-nothing (holds (rows * columns) lines) 5 _ refl
-      (unless-hands-nothing (tablesFit rows columns rowTable columnTable) 6 _ refl
-      (unless-hands-nothing (holds (rows * columns) out && eqb (length marks) (rows * columns)) 7 _ refl
-      (unless-hands-nothing (every parityCorrect (groups rows columns rowTable columnTable)) 9 _ refl
-      (up-to-ten _ (lit≤ tt))))))
+  refusal-hands-nothing out marks d =
+      nothing _ d
+      (refusal-among (λ n. eqb n 0 || not (handsOver n))
+      ((sidesFit rows columns, 2)
+      ∷ (holds (rows * columns) lines, 5)
+      ∷ (tablesFit rows columns rowTable columnTable, 6)
+      ∷ (holds (rows * columns) out && eqb (length marks) (rows * columns), 7)
+      ∷ (every parityCorrect (rowGroups rows columns rowTable), 13)
+      ∷ (every parityCorrect (columnGroups rows columns columnTable), 14)
+      ∷ []) refl refl)
 
   module _ (refusal : ℕ) (is : tablesRefusal rows columns lines rowTable columnTable ≡ refusal) where
     pub tables-run : refusal ≡ 0
@@ -72,6 +70,7 @@ module _ (rows columns : ℕ) (lines rowTable columnTable : List ℕ) where
         → changeLine rows columns lines rowTable columnTable n payload
         ≡ record {
           answer = 0;
+          number = 0;
           lines = putLine lines n (newLine n payload);
           rowTable = addTo rowTable (n / columns) (difference lines n payload);
           columnTable = addTo columnTable (n % columns) (difference lines n payload);
@@ -81,7 +80,13 @@ module _ (rows columns : ℕ) (lines rowTable columnTable : List ℕ) where
 
     pub change-refused : (refusal ≡ 0 → ⊥)
         → changeLine rows columns lines rowTable columnTable n payload
-        ≡ record { answer = refusal; lines = lines; rowTable = rowTable; columnTable = columnTable }
+        ≡ record {
+          answer = refusal;
+          number = numberWith refusal (n / columns) (n % columns);
+          lines = lines;
+          rowTable = rowTable;
+          columnTable = columnTable;
+        }
     unfolding changeLine
     change-refused d = rw (is, ne-eqb refusal 0 d)
 
@@ -94,6 +99,12 @@ module _ (rows columns : ℕ) (lines rowTable columnTable : List ℕ) where
 
     pub repair-refused : (refusal ≡ 0 → ⊥)
         → repairStore rows columns lines rowTable columnTable out marks
-        ≡ record { answer = refusal; passes = 0; lines = out; marks = marks }
+        ≡ record {
+          answer = refusal;
+          number = repairNumber refusal rows columns rowTable columnTable;
+          passes = 0;
+          lines = out;
+          marks = marks;
+        }
     unfolding repairStore
     repair-refused d = rw (is, ne-eqb refusal 0 d)

@@ -2,7 +2,7 @@
 use mathlib.Core.Path.{_≡_, sym, refl, ap, _∙_}
 use mathlib.Core.Logic.{inl, inr}
 use mathlib.Core.Bool.{Bool, true, false, not, _&&_, true≢false, and-eq-true-iff}
-use mathlib.Core.List.{List, [], _∷_}
+use mathlib.Core.List.{List, [], _∷_, map}
 use Prim.Native.Nat.{ℕ, _+_, _-_, _*_, _<_}
 use native.Mathlib.Nat.{zero-add}
 use native.Mathlib.Omega.{arith}
@@ -23,6 +23,10 @@ pub every-at : {A : Type 0} (test : A → Bool) (l : List A) → every test l �
 every-at test [] e a i = absurd i
 every-at test (b ∷ l) e a (inl p) = ap test p ∙ and-eq-true-iff (test b) (every test l) .0 e .0
 every-at test (b ∷ l) e a (inr i) = every-at test l (and-eq-true-iff (test b) (every test l) .0 e .1) a i
+
+pub every-map : {A B : Type 0} (test : B → Bool) (f : A → B) (l : List A) → every test (map f l) ≡ every (λ a. test (f a)) l
+every-map test f [] = refl
+every-map test f (a ∷ l) = ap (λ (b : Bool). test (f a) && b) (every-map test f l)
 
 -- or some one fails
 pub some-fails : {A : Type 0} (test : A → Bool) (l : List A) → every test l ≡ false → (a : A) × (a ∈ l) × (test a ≡ false)
@@ -69,6 +73,23 @@ fails-below test k n h e = fails-from test 0 k n h (ap test (zero-add n) ∙ e)
 pub passed : {n : ℕ} (b : Bool) (refusal next : ℕ) → (refusal ≡ n → ⊥) → unless b refusal next ≡ n → (b ≡ true) × (next ≡ n)
 passed true refusal next d e = (refl, e)
 passed false refusal next d e = absurd (d e)
+
+-- the tests of an entry point in their order, each with its refusal; a definition's chain of `unless` computes to this
+abbrev pub refusalOf : List (Bool × ℕ) → ℕ
+refusalOf [] = 0
+refusalOf (t ∷ ts) = unless (t .0) (t .1) (refusalOf ts)
+
+-- what holds of 0 and of each of its refusals holds of what it gives
+pub refusal-among : (holds : ℕ → Bool) (ts : List (Bool × ℕ)) → holds 0 ≡ true → every (λ t. holds (t .1)) ts ≡ true
+    → holds (refusalOf ts) ≡ true
+refusal-among holds [] z e = z
+refusal-among holds (t ∷ ts) z e =
+    let both = and-eq-true-iff (holds (t .1)) _ .0 e in
+    go (t .0) (both .0) (refusal-among holds ts z (both .1))
+  where
+    go : (b : Bool) → holds (t .1) ≡ true → holds (refusalOf ts) ≡ true → holds (unless b (t .1) (refusalOf ts)) ≡ true
+    go true this later = later
+    go false this later = this
 
 -- both tables have the lengths that refusal 6 asks for
 pub tables-lengths : (rows columns : ℕ) (rowTable columnTable : List ℕ) → tablesFit rows columns rowTable columnTable ≡ true

@@ -5,7 +5,7 @@ use Prim.Native.Nat.{ℕ, _/_, _%_}
 use lib.Dec.{eqb}
 use Rattle.gf2.specs.Word.{Word, _⊕_}
 use Rattle.rectangle.specs.Store.{lineLayer, writeUnder, placesAt, putLine, aloneAt}
-use Rattle.rectangle.specs.Refusals.{changeRefusal}
+use Rattle.rectangle.specs.Refusals.{changeRefusal, numberWith}
 
 -- line n as the data make it
 unfoldable pub newLine : ℕ → List ℕ → Word
@@ -19,9 +19,10 @@ difference lines n payload = aloneAt lines n .line ⊕ newLine n payload
 unfoldable pub addTo : List ℕ → ℕ → Word → List ℕ
 addTo table k w = putLine table k (placesAt table k ⊕ w)
 
--- what changing a line answers, and the three buffers as it leaves them
+-- what changing a line answers, the number of its row or column that comes with 13 or 14, and the three buffers as it leaves them
 pub record LineChanged : Type 0 where
   pub answer : ℕ
+  pub number : ℕ
   pub lines : List ℕ
   pub rowTable : List ℕ
   pub columnTable : List ℕ
@@ -34,8 +35,15 @@ changeLine rows columns lines rowTable columnTable n payload =
     cond (eqb refusal 0)
     (record {
       answer = 0;
+      number = 0;
       lines = putLine lines n (newLine n payload);
       rowTable = addTo rowTable (n / columns) both;
       columnTable = addTo columnTable (n % columns) both;
     })
-    (record { answer = refusal; lines = lines; rowTable = rowTable; columnTable = columnTable })
+    (record {
+      answer = refusal;
+      number = numberWith refusal (n / columns) (n % columns);
+      lines = lines;
+      rowTable = rowTable;
+      columnTable = columnTable;
+    })

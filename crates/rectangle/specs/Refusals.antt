@@ -1,14 +1,14 @@
 -- Document 01, "Turned back, in checking order": for each entry point the first refusal of the list that fits, or 0.
 use mathlib.Core.Bool.{Bool, true, not, cond, _&&_}
 use mathlib.Core.List.{List, [], _∷_}
-use Prim.Native.Nat.{ℕ, _*_, _/_, _%_}
+use Prim.Native.Nat.{ℕ, suc, _*_, _/_, _%_}
 use lib.Dec.{eqb, leb, ltb}
 use lib.ListN.{length}
 use Rattle.linecode.specs.Places.{dataBytes, lineBytes}
 use Rattle.linecode.specs.Code.{upFrom}
 use Rattle.scheme.specs.Layer.{parityAddress}
 use Rattle.scheme.specs.Visit.{Group, isFaulty}
-use Rattle.rectangle.specs.Store.{lineLayer, isCorrectUnder, aloneAt, rowGroup, columnGroup, groups}
+use Rattle.rectangle.specs.Store.{lineLayer, isCorrectUnder, aloneAt, rowGroup, columnGroup, rowGroups, columnGroups}
 
 -- a test that fails gives its refusal, and otherwise the next test is made
 abbrev pub unless : Bool → ℕ → ℕ → ℕ
@@ -18,6 +18,11 @@ unless passed refusal next = cond passed next refusal
 abbrev pub every : {A : Type 0} → (A → Bool) → List A → Bool
 every test [] = true
 every test (a ∷ l) = test a && every test l
+
+-- the number of the first of a list that fails a test, counted from 0
+abbrev pub firstFailing : {A : Type 0} → (A → Bool) → List A → ℕ
+firstFailing test [] = 0
+firstFailing test (a ∷ l) = cond (test a) (suc (firstFailing test l)) 0
 
 -- 2: rows and columns lie in 2 to 512
 unfoldable pub sideFits : ℕ → Bool
@@ -34,7 +39,7 @@ holds k buffer = eqb (length buffer) (k * lineBytes)
 unfoldable pub tablesFit : ℕ → ℕ → List ℕ → List ℕ → Bool
 tablesFit rows columns rowTable columnTable = holds rows rowTable && holds columns columnTable
 
--- 9: a parity line, spare bits apart, is a correct line
+-- 13 and 14, in place of 9: a row's or a column's parity line, spare bits apart, is a correct line
 unfoldable pub parityCorrect : Group → Bool
 parityCorrect g = isCorrectUnder (parityAddress lineLayer (g .members)) (g .parity)
 
@@ -50,7 +55,7 @@ tablesRefusal rows columns lines rowTable columnTable =
     (unless (tablesFit rows columns rowTable columnTable) 6
     (unless (every (acceptedAt lines) (upFrom 0 (rows * columns))) 10 0)))
 
--- changing line n: only its own two parity lines are tested for 9, and it alone for 10
+-- changing line n: only its own row's parity line is tested for 13, its own column's for 14, and it alone for 10
 unfoldable pub changeRefusal : ℕ → ℕ → List ℕ → List ℕ → List ℕ → ℕ → List ℕ → ℕ
 changeRefusal rows columns lines rowTable columnTable n payload =
     unless (sidesFit rows columns) 2
@@ -58,9 +63,9 @@ changeRefusal rows columns lines rowTable columnTable n payload =
     (unless (tablesFit rows columns rowTable columnTable) 6
     (unless (eqb (length payload) dataBytes) 7
     (unless (ltb n (rows * columns)) 8
-    (unless (parityCorrect (rowGroup columns rowTable (n / columns))
-    && parityCorrect (columnGroup rows columns columnTable (n % columns))) 9
-    (unless (acceptedAt lines n) 10 0))))))
+    (unless (parityCorrect (rowGroup columns rowTable (n / columns))) 13
+    (unless (parityCorrect (columnGroup rows columns columnTable (n % columns))) 14
+    (unless (acceptedAt lines n) 10 0)))))))
 
 -- repair: out and marks are the line and mark buffers that it writes
 unfoldable pub repairRefusal : ℕ → ℕ → List ℕ → List ℕ → List ℕ → List ℕ → List ℕ → ℕ
@@ -69,4 +74,9 @@ repairRefusal rows columns lines rowTable columnTable out marks =
     (unless (holds (rows * columns) lines) 5
     (unless (tablesFit rows columns rowTable columnTable) 6
     (unless (holds (rows * columns) out && eqb (length marks) (rows * columns)) 7
-    (unless (every parityCorrect (groups rows columns rowTable columnTable)) 9 0))))
+    (unless (every parityCorrect (rowGroups rows columns rowTable)) 13
+    (unless (every parityCorrect (columnGroups rows columns columnTable)) 14 0)))))
+
+-- the number that comes with an answer: with 13 that of the bad row, with 14 that of the bad column, otherwise 0
+unfoldable pub numberWith : ℕ → ℕ → ℕ → ℕ
+numberWith answer row column = cond (eqb answer 13) row (cond (eqb answer 14) column 0)

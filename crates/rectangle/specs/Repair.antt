@@ -6,17 +6,19 @@ use lib.Dec.{eqb}
 use Rattle.scheme.specs.Layer.{readLine}
 use Rattle.scheme.specs.Visit.{Group}
 use Rattle.scheme.specs.Repair.{Repaired, repair, linesOf, marksOf, answer}
-use Rattle.rectangle.specs.Store.{lineLayer, linesIn, bufferOf, groups}
-use Rattle.rectangle.specs.Refusals.{repairRefusal}
+use Rattle.rectangle.specs.Store.{lineLayer, linesIn, bufferOf, rowGroups, columnGroups, groups}
+use Rattle.rectangle.specs.Refusals.{firstFailing, parityCorrect, repairRefusal, numberWith}
 
 -- the SuDoku steps on the lines of a rectangle
 unfoldable pub repaired : ℕ → ℕ → List ℕ → List ℕ → List ℕ → Repaired
 repaired rows columns lines rowTable columnTable =
     repair (readLine lineLayer) (groups rows columns rowTable columnTable) (linesIn (rows * columns) lines)
 
--- what repair answers, its passes, and the line and mark buffers as it leaves them
+-- what repair answers, the number of the row or column that comes with 13 or 14, its passes, and the line and mark buffers as it
+-- leaves them
 pub record StoreRepaired : Type 0 where
   pub answer : ℕ
+  pub number : ℕ
   pub passes : ℕ
   pub lines : List ℕ
   pub marks : List ℕ
@@ -30,10 +32,18 @@ unfoldable pub handedOver : List Group → Repaired → StoreRepaired
 handedOver gs r =
     record {
       answer = answer gs (r .cells);
+      number = 0;
       passes = r .passes;
       lines = bufferOf (linesOf (r .cells));
       marks = marksOf (r .cells);
     }
+
+-- the number that comes with an answer of repair: that of the first row, or of the first column, whose parity line is bad
+unfoldable pub repairNumber : ℕ → ℕ → ℕ → List ℕ → List ℕ → ℕ
+repairNumber answer rows columns rowTable columnTable =
+    numberWith answer
+    (firstFailing parityCorrect (rowGroups rows columns rowTable))
+    (firstFailing parityCorrect (columnGroups rows columns columnTable))
 
 -- the entry point: a refusal writes nothing
 unfoldable pub repairStore : ℕ → ℕ → List ℕ → List ℕ → List ℕ → List ℕ → List ℕ → StoreRepaired
@@ -42,4 +52,10 @@ repairStore rows columns lines rowTable columnTable out marks =
     let gs = groups rows columns rowTable columnTable in
     cond (eqb refusal 0)
     (handedOver gs (repaired rows columns lines rowTable columnTable))
-    (record { answer = refusal; passes = 0; lines = out; marks = marks })
+    (record {
+      answer = refusal;
+      number = repairNumber refusal rows columns rowTable columnTable;
+      passes = 0;
+      lines = out;
+      marks = marks;
+    })

@@ -81,7 +81,13 @@ rowGroup columns rowTable r = record { members = row columns r; parity = placesA
 abbrev pub columnGroup : ℕ → ℕ → List ℕ → ℕ → Group
 columnGroup rows columns columnTable c = record { members = column rows columns c; parity = placesAt columnTable c }
 
--- all groups in visiting order: rows 0 upward, then columns 0 upward
+-- all rows, and all columns, 0 upward
+abbrev pub rowGroups : ℕ → ℕ → List ℕ → List Group
+rowGroups rows columns rowTable = map (rowGroup columns rowTable) (upFrom 0 rows)
+
+abbrev pub columnGroups : ℕ → ℕ → List ℕ → List Group
+columnGroups rows columns columnTable = map (columnGroup rows columns columnTable) (upFrom 0 columns)
+
+-- all groups in visiting order: rows, then columns
 unfoldable pub groups : ℕ → ℕ → List ℕ → List ℕ → List Group
-groups rows columns rowTable columnTable =
-    map (rowGroup columns rowTable) (upFrom 0 rows) ++ map (columnGroup rows columns columnTable) (upFrom 0 columns)
+groups rows columns rowTable columnTable = rowGroups rows columns rowTable ++ columnGroups rows columns columnTable
