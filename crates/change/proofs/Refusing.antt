@@ -1,21 +1,39 @@
 -- What changing a line refuses, past the tests of the sizes, and what it leaves.
-use mathlib.Core.Path.{_≡_, ap, ap₂, _∙_}
-use mathlib.Core.Bool.{_&&_}
-use mathlib.Core.List.{List}
+use mathlib.Core.Path.{_≡_, refl, sym, ap, _∙_}
+use mathlib.Core.Bool.{Bool}
+use mathlib.Core.List.{List, [], _∷_}
 use Prim.Native.Nat.{ℕ, suc, _*_, _/_, _%_, _≤_, _<_}
 use native.Mathlib.Nat.{mul-le-mul-right}
 use native.Mathlib.Omega.{arith}
-use borrow.Author.Tests.{eqb-true, ltb-true, ne-eqb}
+use borrow.Author.Tests.{eqb-true, ltb-true}
 use lib.Dec.{eqb, ltb}
 use lib.ListN.{length}
 use Rattle.linecode.specs.Places.{dataBytes}
 use Rattle.rectangle.specs.Store.{putLine, rowGroup, columnGroup}
-use Rattle.rectangle.specs.Refusals.{unless, parityCorrect, acceptedAt, changeRefusal}
+use Rattle.rectangle.specs.Refusals.{unless, sidesFit, parityCorrect, acceptedAt, changeRefusal, numberWith}
 use Rattle.rectangle.specs.Change.{newLine, difference, addTo, LineChanged, changeLine}
 use Rattle.rectangle.proofs.Groups.{sides, row-below, column-below}
 use Rattle.rectangle.proofs.Area.{line-bytes}
-use Rattle.rectangle.proofs.Tests.{passed}
+use Rattle.rectangle.proofs.Runs as Runs
+use Rattle.rectangle.proofs.Tests.{passed, refused-there, refused-later}
 use Rattle.rectangle.proofs.Refusing.{sizeTests, sizes-refused, sizes-then, sizes-next, SizesPass}
+
+-- the parity lines of row r and of column c, and then the next test
+abbrev pub parityThen : ℕ → ℕ → List ℕ → List ℕ → ℕ → ℕ → ℕ → ℕ
+parityThen rows columns rowTable columnTable r c next =
+    unless (parityCorrect (rowGroup columns rowTable r)) 13
+    (unless (parityCorrect (columnGroup rows columns columnTable c)) 14 next)
+
+module _ (rows columns : ℕ) (rowTable columnTable : List ℕ) (r c next a : ℕ)
+    (is : a ≡ parityThen rows columns rowTable columnTable r c 0) where
+  abbrev tests : List (Bool × ℕ)
+  tests = (parityCorrect (rowGroup columns rowTable r), 13) ∷ (parityCorrect (columnGroup rows columns columnTable c), 14) ∷ []
+
+  pub parity-refused : (a ≡ 0 → ⊥) → parityThen rows columns rowTable columnTable r c next ≡ a
+  parity-refused = refused-there tests a next is
+
+  pub parity-passed : a ≡ 0 → parityThen rows columns rowTable columnTable r c next ≡ next
+  parity-passed = refused-later tests a next refl is
 
 module _ (rows columns : ℕ) (lines rowTable columnTable : List ℕ) where
   -- a line of the rectangle and its two parity lines lie inside the buffers
@@ -44,8 +62,7 @@ module _ (rows columns : ℕ) (lines rowTable columnTable : List ℕ) where
     changeTests =
         unless (eqb (length payload) 64) 7
         (unless (ltb n (rows * columns)) 8
-        (unless (parityCorrect (rowGroup columns rowTable (n / columns))
-        && parityCorrect (columnGroup rows columns columnTable (n % columns))) 9
+        (parityThen rows columns rowTable columnTable (n / columns) (n % columns)
         (unless (acceptedAt lines n) 10 0)))
 
     pub change-sizes : (r : ℕ) → r ≡ sizeTests rows columns lines rowTable columnTable → (r ≡ 0 → ⊥) → changeRefusal rows columns lines rowTable columnTable n payload ≡ r
@@ -70,26 +87,28 @@ module _ (rows columns : ℕ) (lines rowTable columnTable : List ℕ) where
         let eight = passed (ltb n (rows * columns)) 8 _ (λ y. omega arith) (seven .1) in
         record { sizes = six .0; payloadBytes = eqb-true _ _ (seven .0); inside = ltb-true _ _ (eight .0) }
 
+    -- 13 and 14 come past refusal 2
+    pub numbered-columns : (a : ℕ) → a ≡ changeRefusal rows columns lines rowTable columnTable n payload → (2 ≡ a → ⊥)
+        → 0 < columns
+    unfolding changeRefusal
+    numbered-columns a e d =
+        let two = passed (sidesFit rows columns) 2 _ d (sym e) in
+        omega (arith, sides rows columns (two .0))
+
     -- a refusal writes nothing
-    pub change-refused : (r : ℕ) → changeRefusal rows columns lines rowTable columnTable n payload ≡ r → (r ≡ 0 → ⊥)
-        → _≡_ {A = LineChanged} (record { answer = r; lines = lines; rowTable = rowTable; columnTable = columnTable })
+    pub change-refused : (r number : ℕ) → r ≡ changeRefusal rows columns lines rowTable columnTable n payload → (r ≡ 0 → ⊥)
+        → number ≡ numberWith r (n / columns) (n % columns)
+        → _≡_ {A = LineChanged} (record { answer = r; number = number; lines = lines; rowTable = rowTable; columnTable = columnTable })
         (changeLine rows columns lines rowTable columnTable n payload)
-    unfolding changeLine
-    change-refused r e d = rw (e, ne-eqb r 0 d)
+    change-refused r number e d f =
+        ap (λ (k : ℕ). record { answer = r; number = k; lines = lines; rowTable = rowTable; columnTable = columnTable }) f
+        ∙ sym (Runs.change-refused rows columns lines rowTable columnTable n payload r (sym e) d)
 
     pub change-made : (newLines newRows newColumns : List ℕ) → changeRefusal rows columns lines rowTable columnTable n payload ≡ 0
         → newLines ≡ putLine lines n (newLine n payload)
         → newRows ≡ addTo rowTable (n / columns) (difference lines n payload)
         → newColumns ≡ addTo columnTable (n % columns) (difference lines n payload)
-        → _≡_ {A = LineChanged} (record { answer = 0; lines = newLines; rowTable = newRows; columnTable = newColumns })
+        → _≡_ {A = LineChanged} (record { answer = 0; number = 0; lines = newLines; rowTable = newRows; columnTable = newColumns })
         (changeLine rows columns lines rowTable columnTable n payload)
-    unfolding changeLine
     change-made newLines newRows newColumns e f g h =
-        ap (λ (a : List ℕ). record { answer = 0; lines = a; rowTable = newRows; columnTable = newColumns }) f
-        ∙ ap₂ (λ (a b : List ℕ). record {
-          answer = 0;
-          lines = putLine lines n (newLine n payload);
-          rowTable = a;
-          columnTable = b;
-        }) g h
-        ∙ rw e
+        rw (f, g, h) (sym (Runs.change-runs rows columns lines rowTable columnTable n payload 0 e refl))

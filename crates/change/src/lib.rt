@@ -15,12 +15,17 @@ use rectangle::lines::row_parity;
 use rectangle::sizes;
 use single::alone;
 ghost use mathlib.Core.Path.{_≡_};
-ghost use mathlib.Core.Bool.{_&&_};
-ghost use Prim.Native.Nat.{ℕ, suc, _*_, _≤_};
+ghost use Prim.Native.Nat.{ℕ, suc, _*_, _/_, _%_, _≤_, _<_};
 ghost use lib.ListN.{length};
 ghost use Rattle.rectangle.specs.Store.{aloneAt, inBytes, rowGroup, columnGroup};
-ghost use Rattle.rectangle.specs.Refusals.{parityCorrect, changeRefusal};
+ghost use Rattle.rectangle.specs.Refusals.{unless, parityCorrect, changeRefusal, numberWith};
 ghost use Rattle.rectangle.specs.Change.{LineChanged, changeLine};
+
+// What a change answers, and the number of its row or column that comes with 13 or 14, otherwise 0.
+pub struct Changed {
+    pub answer: u32,
+    pub number: usize,
+}
 
 // Line n of a buffer as it reads alone.
 fn alone_at(buffer: &[u8], n: usize) -> Reading
@@ -30,24 +35,28 @@ fn alone_at(buffer: &[u8], n: usize) -> Reading
     alone::read_line(line_at(buffer, n))
 }
 
-// Whether the parity lines of a row and of a column are correct lines, spare bits apart, in a rectangle of any sides.
-fn parities_correct(
+// 13 where a row's parity line isn't a correct line, then 14 where a column's isn't, spare bits apart, or 0: in a rectangle of any sides.
+fn parity_refusal(
     row_table: &[u8],
     row: RowIndex,
     column_table: &[u8],
     column: ColumnIndex,
-) -> bool
+) -> u32
     requires { ⌜ (suc (row .0) * 70 ≤ length (now «row_table»)) × (suc (column .0) * 70 ≤ length (now «column_table»)) ⌝ }
     ensures { λ r. ⌜ ((rows columns : ℕ) → r
-        ≡ parityCorrect (rowGroup columns (now («row_table» .entry)) (row .0))
-        && parityCorrect (columnGroup rows columns (now («column_table» .entry)) (column .0))) ⌝ }
+        ≡ unless (parityCorrect (rowGroup columns (now («row_table» .entry)) (row .0))) 13
+        (unless (parityCorrect (columnGroup rows columns (now («column_table» .entry)) (column .0))) 14 0)) ⌝ }
 {
-    let of_row = alone::is_correct(row_parity(row_table, row));
-    let of_column = alone::is_correct(column_parity(column_table, column));
-    of_row && of_column
+    if !alone::is_correct(row_parity(row_table, row)) {
+        return 13;
+    }
+    if !alone::is_correct(column_parity(column_table, column)) {
+        return 14;
+    }
+    0
 }
 
-// The first refusal that fits, or 0: only the line's own two parity lines are tested for 9, and the line alone for 10.
+// The first refusal that fits, or 0: only the line's own two parity lines are tested for 13 and 14, and the line alone for 10.
 fn refusal(
     rows: usize,
     columns: usize,
@@ -77,22 +86,33 @@ fn refusal(
     if rows * columns <= n {
         return 8;
     }
-    // What refusals 9 and 10 ask, and then both in their order.
     let row = row_of(columns, n);
-    let column = column_of(columns, n);
-    let correct = parities_correct(row_table, row, column_table, column);
-    let read = alone_at(lines, n);
-    let mark = read.mark;
-    if !correct {
-        return 9;
+    let bad = parity_refusal(row_table, row, column_table, column_of(columns, n));
+    if bad != 0 {
+        return bad;
     }
-    if mark == 4 {
+    let read = alone_at(lines, n);
+    if read.mark == 4 {
         return 10;
     }
     0
 }
 
-// Line n written anew from 64 data bytes: 0, or the first refusal that fits, which writes nothing.
+// The number that comes with an answer: that of line n's row with 13, that of its column with 14, otherwise 0.
+fn number_with(answer: u32, columns: usize, n: usize) -> usize
+    requires { ⌜ (answer ≡ 13 → 0 < columns) × (answer ≡ 14 → 0 < columns) ⌝ }
+    ensures { λ r. ⌜ r ≡ numberWith answer (n / columns) (n % columns) ⌝ }
+{
+    if answer == 13 {
+        return row_of(columns, n).0;
+    }
+    if answer == 14 {
+        return column_of(columns, n).0;
+    }
+    0
+}
+
+// Line n written anew from 64 data bytes: 0 and 0, or the first refusal that fits, which writes nothing, and its number.
 pub fn change_line(
     rows: usize,
     columns: usize,
@@ -101,10 +121,11 @@ pub fn change_line(
     column_table: &mut [u8],
     n: usize,
     payload: &[u8],
-) -> u32
+) -> Changed
     ensures { λ r. ⌜ _≡_ {A = LineChanged}
         (record {
-          answer = r;
+          answer = r .answer;
+          number = r .number;
           lines = now (lines .exit);
           rowTable = now («row_table» .exit);
           columnTable = now («column_table» .exit);
@@ -114,7 +135,10 @@ pub fn change_line(
 {
     let answer = refusal(rows, columns, lines, row_table, column_table, n, payload);
     if answer != 0 {
-        return answer;
+        return Changed {
+            answer,
+            number: number_with(answer, columns, n),
+        };
     }
     let read = alone_at(lines, n);
     let old = read.line;
@@ -125,5 +149,8 @@ pub fn change_line(
     add_to_row(row_table, row, both);
     let column = column_of(columns, n);
     add_to_column(column_table, column, both);
-    0
+    Changed {
+        answer: 0,
+        number: 0,
+    }
 }

@@ -1,7 +1,7 @@
 -- What the entry points refuse: the tests of the sizes, which they share.
 use mathlib.Core.Path.{_≡_, sym, _∙_}
-use mathlib.Core.Bool.{Bool, true, false, _&&_, and-eq-true-iff}
-use mathlib.Core.List.{List}
+use mathlib.Core.Bool.{true, _&&_, and-eq-true-iff}
+use mathlib.Core.List.{List, [], _∷_}
 use Prim.Native.Nat.{ℕ, _*_}
 use native.Mathlib.Omega.{arith}
 use borrow.Author.Tests.{eqb-true, eq-eqb}
@@ -9,15 +9,7 @@ use lib.Dec.{eqb}
 use lib.ListN.{length}
 use Rattle.linecode.specs.Places.{lineBytes}
 use Rattle.rectangle.specs.Refusals.{unless, sidesFit, holds, tablesFit}
-use Rattle.rectangle.proofs.Tests.{passed}
-
--- a refusal that the first three tests give stands, whatever is tested next
-refused : (a b c : Bool) (r next : ℕ) → r ≡ unless a 2 (unless b 5 (unless c 6 0)) → (r ≡ 0 → ⊥)
-    → unless a 2 (unless b 5 (unless c 6 next)) ≡ r
-refused true true true r next e d = absurd (d e)
-refused true true false r next e d = sym e
-refused true false c r next e d = sym e
-refused false b c r next e d = sym e
+use Rattle.rectangle.proofs.Tests.{passed, refused-there}
 
 module _ (rows columns : ℕ) (lines rowTable columnTable : List ℕ) where
   -- the tests of the sizes, as the code makes them on the lengths
@@ -37,8 +29,11 @@ module _ (rows columns : ℕ) (lines rowTable columnTable : List ℕ) where
   pub sizes-refused : (r next : ℕ) → r ≡ sizeTests → (r ≡ 0 → ⊥) → sizesThen next ≡ r
   unfolding holds tablesFit lineBytes
   sizes-refused r next e d =
-      refused (sidesFit rows columns) (eqb (length lines) (rows * columns * 70))
-      (eqb (length rowTable) (rows * 70) && eqb (length columnTable) (columns * 70)) r next e d
+      refused-there
+      ((sidesFit rows columns, 2)
+      ∷ (eqb (length lines) (rows * columns * 70), 5)
+      ∷ (eqb (length rowTable) (rows * 70) && eqb (length columnTable) (columns * 70), 6)
+      ∷ []) r next e d
 
   pub record SizesPass : Type 0 where
     pub sides : sidesFit rows columns ≡ true

@@ -6,6 +6,8 @@ use mathlib.Core.List.{List, [], _∷_, map}
 use Prim.Native.Nat.{ℕ, _+_, _-_, _*_, _<_}
 use native.Mathlib.Nat.{zero-add}
 use native.Mathlib.Omega.{arith}
+use borrow.Author.Tests.{eqb-false, not-true}
+use lib.Dec.{eqb}
 use Rattle.linecode.specs.Places.{lineBytes}
 use Rattle.linecode.specs.Code.{upFrom}
 use lib.ListN.{length}
@@ -74,20 +76,42 @@ pub passed : {n : ℕ} (b : Bool) (refusal next : ℕ) → (refusal ≡ n → �
 passed true refusal next d e = (refl, e)
 passed false refusal next d e = absurd (d e)
 
--- the tests of an entry point in their order, each with its refusal; a definition's chain of `unless` computes to this
-abbrev pub refusalOf : List (Bool × ℕ) → ℕ
-refusalOf [] = 0
-refusalOf (t ∷ ts) = unless (t .0) (t .1) (refusalOf ts)
+-- tests in their order, each with its refusal, and what is tested next: a definition's chain of `unless` computes to this
+abbrev pub refusals : List (Bool × ℕ) → ℕ → ℕ
+refusals [] next = next
+refusals (t ∷ ts) next = unless (t .0) (t .1) (refusals ts next)
 
--- what holds of 0 and of each of its refusals holds of what it gives
+-- what they give is theirs, whatever is tested next, or the next test decides
+pub refused-there : (ts : List (Bool × ℕ)) (r next : ℕ) → r ≡ refusals ts 0 → (r ≡ 0 → ⊥) → refusals ts next ≡ r
+refused-there [] r next e d = absurd (d e)
+refused-there (t ∷ ts) r next e d = go (t .0) e (λ f. refused-there ts r next f d)
+  where
+    go : (b : Bool) → r ≡ unless b (t .1) (refusals ts 0) → (r ≡ refusals ts 0 → refusals ts next ≡ r)
+        → unless b (t .1) (refusals ts next) ≡ r
+    go true f later = later f
+    go false f later = sym f
+
+pub refused-later : (ts : List (Bool × ℕ)) (r next : ℕ) → every (λ t. not (eqb (t .1) 0)) ts ≡ true → r ≡ refusals ts 0 → r ≡ 0
+    → refusals ts next ≡ next
+refused-later [] r next n e z = refl
+refused-later (t ∷ ts) r next n e z =
+    let each = and-eq-true-iff (not (eqb (t .1) 0)) _ .0 n in
+    go (t .0) (eqb-false (t .1) 0 (not-true _ (each .0))) e (λ f. refused-later ts r next (each .1) f z)
+  where
+    go : (b : Bool) → (t .1 ≡ 0 → ⊥) → r ≡ unless b (t .1) (refusals ts 0) → (r ≡ refusals ts 0 → refusals ts next ≡ next)
+        → unless b (t .1) (refusals ts next) ≡ next
+    go true d f later = later f
+    go false d f later = absurd (d (sym f ∙ z))
+
+-- what holds of 0 and of each of their refusals holds of what they give
 pub refusal-among : (holds : ℕ → Bool) (ts : List (Bool × ℕ)) → holds 0 ≡ true → every (λ t. holds (t .1)) ts ≡ true
-    → holds (refusalOf ts) ≡ true
+    → holds (refusals ts 0) ≡ true
 refusal-among holds [] z e = z
 refusal-among holds (t ∷ ts) z e =
-    let both = and-eq-true-iff (holds (t .1)) _ .0 e in
-    go (t .0) (both .0) (refusal-among holds ts z (both .1))
+    let each = and-eq-true-iff (holds (t .1)) _ .0 e in
+    go (t .0) (each .0) (refusal-among holds ts z (each .1))
   where
-    go : (b : Bool) → holds (t .1) ≡ true → holds (refusalOf ts) ≡ true → holds (unless b (t .1) (refusalOf ts)) ≡ true
+    go : (b : Bool) → holds (t .1) ≡ true → holds (refusals ts 0) ≡ true → holds (unless b (t .1) (refusals ts 0)) ≡ true
     go true this later = later
     go false this later = this
 

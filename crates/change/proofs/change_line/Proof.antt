@@ -1,19 +1,27 @@
 -- `change::change_line` meets its contract: a refusal, or the line and its two parity lines written.
 use mathlib.Core.Path.{_≡_, sym, ap, ap₂, _∙_}
 use Prim.Native.Nat.{ℕ}
+use native.Mathlib.Omega.{arith}
 use borrow.Author.Needs.{needs}
 use Rattle.linecode.specs.Places.{places, lineOf}
 use Rattle.rectangle.specs.Refusals.{changeRefusal}
 use Rattle.rectangle.specs.Change.{newLine, difference, addTo}
 use Rattle.linecode.specs.declared.alone.Reading.{Reading}
 use Rattle.rectangle.proofs.LineLayer.{rewrites}
-use Rattle.change.proofs.Refusing.{some-columns, line-room, row-room, column-room, ChangePass, change-passed, change-refused, change-made}
+use Rattle.change.proofs.Refusing.{some-columns, line-room, row-room, column-room, ChangePass, change-passed, numbered-columns, change-refused, change-made}
 use Rattle.change.proofs.Changing.{put-new, both-places}
 use Rattle.change.proofs.change_line.Statement.{statement}
 use Rattle.change.proofs.change_line.Tie as tie
 
 refusal-requires : tie.Need-refusal-requires
 refusal-requires c κs = search needs
+
+number-with-requires : tie.Need-number-with-requires
+number-with-requires c κs =
+    let a = c .before .before .before .before .before .before .before .before .before .args in
+    let some = numbered-columns (a .rows) (a .columns) (a .lines .now) (a .row-table .now) (a .column-table .now) (a .n) (a .payload .now) _
+        (c .before .refusal .ensures) in
+    (λ e. some (λ f. omega arith), λ e. some (λ f. omega arith))
 
 same-length : tie.Need-same-length
 same-length c = search needs
@@ -26,9 +34,9 @@ same-length-3 c = search needs
 
 returns : tie.Need-returns
 returns c =
-    let a = c .before .before .before .before .before .before .before .before .before .args in
-    change-refused (a .rows) (a .columns) (a .lines .now) (a .row-table .now) (a .column-table .now) (a .n) (a .payload .now) _
-    (sym (c .before .refusal .ensures)) (c .if1 .taken)
+    let a = c .before .before .before .before .before .before .before .before .before .before .args in
+    change-refused (a .rows) (a .columns) (a .lines .now) (a .row-table .now) (a .column-table .now) (a .n) (a .payload .now) _ _
+    (c .before .before .refusal .ensures) (c .before .if1 .taken) (c .number-with .ensures)
 
 -- what the definition refuses, and what it asks, of the call's arguments
 abbrev refusalOf : tie.Start → ℕ
@@ -139,6 +147,7 @@ change-line-spec =
     tie.close
     (tie.spec
     refusal-requires
+    number-with-requires
     same-length
     same-length-2
     same-length-3

@@ -1,17 +1,15 @@
 -- `change::refusal` meets its contract: each way out is one of the tests.
 use mathlib.Core.Path.{_≡_, sym, ap, ap₂, _∙_}
-use mathlib.Core.Bool.{_&&_}
 use Prim.Native.Nat.{ℕ, _/_, _%_}
 use native.Mathlib.Omega.{arith}
 use borrow.Author.Needs.{needs}
-use borrow.Author.Tests.{eq-eqb, ne-eqb, lt-ltb, le-ltb, not-true, not-false}
+use borrow.Author.Tests.{eq-eqb, ne-eqb, lt-ltb, le-ltb}
 use Rattle.linecode.specs.declared.alone.Reading.{Reading}
-use Rattle.rectangle.specs.Store.{rowGroup, columnGroup}
-use Rattle.rectangle.specs.Refusals.{unless, parityCorrect, acceptedAt, changeRefusal}
+use Rattle.rectangle.specs.Refusals.{unless, acceptedAt, changeRefusal}
 use Rattle.rectangle.proofs.Area.{area}
 use Rattle.rectangle.proofs.Alone.{faulty-alone, accepted-alone}
 use Rattle.rectangle.proofs.Refusing.{SizesPass, sizes-passed}
-use Rattle.change.proofs.Refusing.{some-columns, line-room, row-room, column-room, changeTests, change-sizes, change-next}
+use Rattle.change.proofs.Refusing.{some-columns, line-room, row-room, column-room, changeTests, change-sizes, change-next, parityThen, parity-refused, parity-passed}
 use Rattle.change.proofs.refusal.Statement.{statement}
 use Rattle.change.proofs.refusal.Tie as tie
 
@@ -54,8 +52,7 @@ returns-3 c = rw (← next (c .before .before), eq-eqb _ 64 (c .before .if2 .lef
 -- past refusals 7 and 8 the definition tests the parity lines and then the line
 left : (c : tie.Else3)
     → let a = c .before .before .before .before .before .before .before .before .args in
-    unless (parityCorrect (rowGroup (a .columns) (a .row-table .now) (a .n / a .columns))
-    && parityCorrect (columnGroup (a .rows) (a .columns) (a .column-table .now) (a .n % a .columns))) 9
+    parityThen (a .rows) (a .columns) (a .row-table .now) (a .column-table .now) (a .n / a .columns) (a .n % a .columns)
     (unless (acceptedAt (a .lines .now) (a .n)) 10 0)
     ≡ changeRefusal (a .rows) (a .columns) (a .lines .now) (a .row-table .now) (a .column-table .now) (a .n) (a .payload .now)
 left c = rw (← next (c .before .before), eq-eqb _ 64 (c .before .if2 .left), lt-ltb _ _ (c .if3 .left))
@@ -66,54 +63,49 @@ row-of-requires c κs = some-columns _ _ _ _ _ (fit (c .before .before)) _ (c .i
 column-of-requires : tie.Need-column-of-requires
 column-of-requires c κs = some-columns _ _ _ _ _ (fit (c .before .before .before)) _ (c .before .if3 .left)
 
-parities-correct-requires : tie.Need-parities-correct-requires
-parities-correct-requires c κs =
+parity-refusal-requires : tie.Need-parity-refusal-requires
+parity-refusal-requires c κs =
     let p = fit (c .before .before .before .before) in
     let inside = c .before .before .if3 .left in
     (row-room _ _ _ _ _ p _ inside _ (c .before .row-of .ensures), column-room _ _ _ _ _ p _ inside _ (c .column-of .ensures))
 
-alone-at-requires : tie.Need-alone-at-requires
-alone-at-requires c κs = line-room _ _ _ _ _ (fit (c .before .before .before .before .before)) _ (c .before .before .before .if3 .left)
-
 -- what is tested of the two parity lines, by the line's row and column
-tested : (c : tie.After-parities-correct)
+tested : (c : tie.After-parity-refusal)
     → let a = c .before .before .before .before .before .before .before .before .before .before .before .args in
-    parityCorrect (rowGroup (a .columns) (a .row-table .now) (a .n / a .columns))
-    && parityCorrect (columnGroup (a .rows) (a .columns) (a .column-table .now) (a .n % a .columns))
-    ≡ c .parities-correct .result
+    c .parity-refusal .result
+    ≡ parityThen (a .rows) (a .columns) (a .row-table .now) (a .column-table .now) (a .n / a .columns) (a .n % a .columns) 0
 tested c =
     let a = c .before .before .before .before .before .before .before .before .before .before .before .args in
-    sym (c .parities-correct .ensures (a .rows) (a .columns)
-    ∙ ap₂ (λ (i j : ℕ). parityCorrect (rowGroup (a .columns) (a .row-table .now) i) && parityCorrect (columnGroup (a .rows) (a .columns) (a .column-table .now) j))
-    (c .before .before .row-of .ensures) (c .before .column-of .ensures))
+    c .parity-refusal .ensures (a .rows) (a .columns)
+    ∙ ap₂ (λ (i j : ℕ). parityThen (a .rows) (a .columns) (a .row-table .now) (a .column-table .now) i j 0)
+    (c .before .before .row-of .ensures) (c .before .column-of .ensures)
 
 returns-4 : tie.Need-returns-4
-returns-4 c =
-    let parities = c .before .before in
-    rw (← left (parities .before .before .before), tested parities ∙ not-true _ (c .if4 .taken))
+returns-4 c = sym (sym (left (c .before .before .before .before)) ∙ parity-refused _ _ _ _ _ _ _ _ (tested (c .before)) (c .if4 .taken))
 
--- past refusal 9 the definition tests the line
+alone-at-requires : tie.Need-alone-at-requires
+alone-at-requires c κs = line-room _ _ _ _ _ (fit (c .before .before .before .before .before .before)) _ (c .before .before .before .before .if3 .left)
+
+-- past refusals 13 and 14 the definition tests the line
 last : (c : tie.Else4)
-    → let a = c .before .before .before .before .before .before .before .before .before .before .before .before .before .args in
+    → let a = c .before .before .before .before .before .before .before .before .before .before .before .before .args in
     unless (acceptedAt (a .lines .now) (a .n)) 10 0
     ≡ changeRefusal (a .rows) (a .columns) (a .lines .now) (a .row-table .now) (a .column-table .now) (a .n) (a .payload .now)
-last c =
-    let parities = c .before .before in
-    rw (← left (parities .before .before .before), tested parities ∙ not-false _ (c .if4 .left))
+last c = sym (parity-passed _ _ _ _ _ _ _ _ (tested (c .before)) (c .if4 .left)) ∙ left (c .before .before .before .before)
 
 returns-5 : tie.Need-returns-5
 returns-5 c =
-    let a = c .before .before .before .before .before .before .before .before .before .before .before .before .before .before .args in
     let read = c .before .before .alone-at in
+    let a = c .before .before .before .before .before .before .before .before .before .before .before .before .before .before .before .args in
     let mark = ap (λ (r : Reading). r .mark) (read .ensures) in
-    rw (← last (c .before), faulty-alone (a .lines .now) (a .n) (read .result .mark) mark (c .if5 .taken))
+    rw (← last (c .before .before .before), faulty-alone (a .lines .now) (a .n) (read .result .mark) mark (c .if5 .taken))
 
 returns-6 : tie.Need-returns-6
 returns-6 c =
-    let a = c .before .before .before .before .before .before .before .before .before .before .before .before .before .before .args in
     let read = c .before .before .alone-at in
+    let a = c .before .before .before .before .before .before .before .before .before .before .before .before .before .before .before .args in
     let mark = ap (λ (r : Reading). r .mark) (read .ensures) in
-    rw (← last (c .before), accepted-alone (a .lines .now) (a .n) (read .result .mark) mark (c .if5 .left))
+    rw (← last (c .before .before .before), accepted-alone (a .lines .now) (a .n) (read .result .mark) mark (c .if5 .left))
 
 pub refusal-spec : {M : Type 1} → statement M
 refusal-spec =
@@ -126,8 +118,8 @@ refusal-spec =
     returns-3
     row-of-requires
     column-of-requires
-    parities-correct-requires
-    alone-at-requires
+    parity-refusal-requires
     returns-4
+    alone-at-requires
     returns-5
     returns-6)
