@@ -10,13 +10,13 @@ use lib.Dec.{eqb, ltb}
 use lib.ListN.{length}
 use Rattle.linecode.specs.Places.{dataBytes}
 use Rattle.rectangle.specs.Store.{putLine, rowGroup, columnGroup}
-use Rattle.rectangle.specs.Refusals.{unless, sidesFit, parityCorrect, acceptedAt, changeRefusal, numberWith}
+use Rattle.rectangle.specs.Refusals.{unless, parityCorrect, acceptedAt, changeRefusal, numberWith}
 use Rattle.rectangle.specs.Change.{newLine, difference, addTo, LineChanged, changeLine}
 use Rattle.rectangle.proofs.Groups.{sides, row-below, column-below}
 use Rattle.rectangle.proofs.Area.{line-bytes}
 use Rattle.rectangle.proofs.Runs as Runs
 use Rattle.rectangle.proofs.Tests.{passed, refused-there, refused-later}
-use Rattle.rectangle.proofs.Refusing.{sizeTests, sizes-refused, sizes-then, sizes-next, SizesPass}
+use Rattle.rectangle.proofs.Refusing.{sizeTests, sizes-refused, sizes-past, sizes-then, sizes-next, SizesPass}
 
 -- the parity lines of row r and of column c, and then the next test
 abbrev pub parityThen : ℕ → ℕ → List ℕ → List ℕ → ℕ → ℕ → ℕ → ℕ
@@ -87,13 +87,11 @@ module _ (rows columns : ℕ) (lines rowTable columnTable : List ℕ) where
         let eight = passed (ltb n (rows * columns)) 8 _ (λ y. omega arith) (seven .1) in
         record { sizes = six .0; payloadBytes = eqb-true _ _ (seven .0); inside = ltb-true _ _ (eight .0) }
 
-    -- 13 and 14 come past refusal 2
-    pub numbered-columns : (a : ℕ) → a ≡ changeRefusal rows columns lines rowTable columnTable n payload → (2 ≡ a → ⊥)
-        → 0 < columns
+    -- 13 and 14 come past the sizes
+    pub numbered-columns : (a : ℕ) → a ≡ changeRefusal rows columns lines rowTable columnTable n payload → 6 < a → 0 < columns
     unfolding changeRefusal
-    numbered-columns a e d =
-        let two = passed (sidesFit rows columns) 2 _ d (sym e) in
-        omega (arith, sides rows columns (two .0))
+    numbered-columns a e more =
+        omega (arith, sides rows columns (sizes-past rows columns lines rowTable columnTable a _ (λ k l h z. omega arith) (sym e) .0 .sides))
 
     -- a refusal writes nothing
     pub change-refused : (r number : ℕ) → r ≡ changeRefusal rows columns lines rowTable columnTable n payload → (r ≡ 0 → ⊥)

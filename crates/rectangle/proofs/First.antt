@@ -4,7 +4,7 @@ use mathlib.Core.Logic.{_⊎_, inl, inr}
 use mathlib.Core.Bool.{Bool, true, false, cond, true≢false}
 use mathlib.Core.List.{List, [], _∷_, map}
 use Prim.Native.Nat.{ℕ, zero, suc, _+_, _≤_, _<_, suc-le-suc, zero-le}
-use native.Mathlib.Nat.{zero-add, le-of-suc-le-suc, not-suc-le-zero, lt-of-not-le, eq-or-lt-of-le}
+use native.Mathlib.Nat.{zero-add, le-of-suc-le-suc, not-suc-le-zero, lt-of-not-le, lt-irrefl, eq-or-lt-of-le}
 use native.Mathlib.Omega.{arith}
 use Rattle.linecode.specs.Code.{upFrom}
 use Rattle.rectangle.specs.Refusals.{every, firstFailing}
@@ -80,3 +80,29 @@ module _ {A : Type 0} (test : A → Bool) (f : ℕ → A) (n : ℕ) where
           → every test (map f (upFrom 0 n)) ≡ false
       go (inl e) = absurd (d e)
       go (inr h) = every-map test f (upFrom 0 n) ∙ fails-below (λ k. test (f k)) n _ h (first-of test f n .fails h)
+
+-- ---- r of so many have passed
+pub record Passed (test : ℕ → Bool) (total r : ℕ) : Type 0 where
+  pub few : r ≤ total
+  pub before : (k : ℕ) → k < r → test k ≡ true
+
+pub passed-none : (test : ℕ → Bool) (total : ℕ) → Passed test total 0
+passed-none test total = record { few = zero-le; before = λ k h. absurd (not-suc-le-zero h) }
+
+pub passed-next : (test : ℕ → Bool) (total r : ℕ) → Passed test total r → r < total → test r ≡ true → Passed test total (r + 1)
+passed-next test total r p h e = record { few = omega arith; before = λ k less. go k (eq-or-lt-of-le (at-most k less)) }
+  where
+    at-most : (k : ℕ) → k < r + 1 → k ≤ r
+    at-most k less = omega arith
+
+    go : (k : ℕ) → (k ≡ r) ⊎ (k < r) → test k ≡ true
+    go k (inl same) = ap test same ∙ e
+    go k (inr less) = p .before k less
+
+-- the next one fails, or none is left
+module _ {A : Type 0} (test : A → Bool) (f : ℕ → A) (n r : ℕ) (p : Passed (λ k. test (f k)) n r) where
+  pub next-fails : test (f r) ≡ false → r ≡ firstFailing test (map f (upFrom 0 n))
+  next-fails e = first-is test f n r (record { few = p .few; before = p .before; fails = λ h. e })
+
+  pub none-left : n ≤ r → r ≡ firstFailing test (map f (upFrom 0 n))
+  none-left h = first-is test f n r (record { few = p .few; before = p .before; fails = λ less. absurd (lt-irrefl r (omega arith)) })

@@ -2,7 +2,7 @@
 use mathlib.Core.Path.{_≡_, sym, _∙_}
 use mathlib.Core.Bool.{true, _&&_, and-eq-true-iff}
 use mathlib.Core.List.{List, [], _∷_}
-use Prim.Native.Nat.{ℕ, _*_}
+use Prim.Native.Nat.{ℕ, _*_, _≤_}
 use native.Mathlib.Omega.{arith}
 use borrow.Author.Tests.{eqb-true, eq-eqb}
 use lib.Dec.{eqb}
@@ -41,12 +41,14 @@ module _ (rows columns : ℕ) (lines rowTable columnTable : List ℕ) where
     pub rowBytes : length rowTable ≡ rows * 70
     pub columnBytes : length columnTable ≡ columns * 70
 
-  pub sizes-then : (next : ℕ) → sizesThen next ≡ 0 → SizesPass × (next ≡ 0)
+  -- an answer other than their refusals comes past them
+  pub sizes-past : (answer next : ℕ) → ((k : ℕ) → 2 ≤ k → k ≤ 6 → k ≡ answer → ⊥) → sizesThen next ≡ answer
+      → SizesPass × (next ≡ answer)
   unfolding holds tablesFit lineBytes
-  sizes-then next e =
-      let two = passed (sidesFit rows columns) 2 _ (λ y. omega arith) e in
-      let five = passed (holds (rows * columns) lines) 5 _ (λ y. omega arith) (two .1) in
-      let six = passed (tablesFit rows columns rowTable columnTable) 6 _ (λ y. omega arith) (five .1) in
+  sizes-past answer next other e =
+      let two = passed (sidesFit rows columns) 2 _ (other 2 (omega arith) (omega arith)) e in
+      let five = passed (holds (rows * columns) lines) 5 _ (other 5 (omega arith) (omega arith)) (two .1) in
+      let six = passed (tablesFit rows columns rowTable columnTable) 6 _ (other 6 (omega arith) (omega arith)) (five .1) in
       let both = and-eq-true-iff (holds rows rowTable) (holds columns columnTable) .0 (six .0) in (
         record {
           sides = two .0;
@@ -56,6 +58,9 @@ module _ (rows columns : ℕ) (lines rowTable columnTable : List ℕ) where
         },
         six .1,
       )
+
+  pub sizes-then : (next : ℕ) → sizesThen next ≡ 0 → SizesPass × (next ≡ 0)
+  sizes-then next e = sizes-past 0 next (λ k l h z. omega arith) e
 
   pub sizes-passed : (r : ℕ) → r ≡ sizeTests → r ≡ 0 → SizesPass
   unfolding holds tablesFit lineBytes

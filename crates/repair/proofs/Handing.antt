@@ -11,7 +11,7 @@ use Rattle.scheme.specs.Visit.{Group, State, lineAt, faultyOf, sum}
 use Rattle.scheme.specs.Repair.{Repaired, readAll, passesFrom, repair, linesOf, marksOf, answer}
 use Rattle.rectangle.specs.Store.{lineLayer, placesAt, bytesAt, linesIn, bufferOf}
 use Rattle.rectangle.specs.Refusals.{repairRefusal}
-use Rattle.rectangle.specs.Repair.{repaired, handedOver, StoreRepaired, repairStore}
+use Rattle.rectangle.specs.Repair.{repaired, handedOver, repairNumber, StoreRepaired, repairStore}
 use Rattle.rectangle.proofs.Spare.{bytes-is}
 use Rattle.rectangle.proofs.Buffer.{length-placesAt}
 use Rattle.rectangle.proofs.Runs.{repair-runs, repair-refused}
@@ -109,13 +109,14 @@ finished rows columns parity found out₁ marks₁ lacks₁ faulty₁ out marks 
     same x n e = ap (λ (k : ℕ). record { cells = x .cells; passes = k }) (sym e)
 
 -- ---- what repair hands over
-pub handed : (rows columns : ℕ) (lines rt ct out₀ marks₀ out marks : List ℕ) (answered passed : ℕ)
-    → repairRefusal rows columns lines rt ct out₀ marks₀ ≡ 0 → Finished rows columns (parityOf rows rt ct) lines out marks answered passed
-    → _≡_ {A = StoreRepaired} (record { answer = answered; passes = passed; lines = out; marks = marks })
+pub handed : (rows columns : ℕ) (lines rt ct out₀ marks₀ out marks : List ℕ) (answered numbered passed : ℕ)
+    → repairRefusal rows columns lines rt ct out₀ marks₀ ≡ 0 → numbered ≡ 0
+    → Finished rows columns (parityOf rows rt ct) lines out marks answered passed
+    → _≡_ {A = StoreRepaired} (record { answer = answered; number = numbered; passes = passed; lines = out; marks = marks })
     (repairStore rows columns lines rt ct out₀ marks₀)
 unfolding repaired handedOver repair
-handed rows columns lines rt ct out₀ marks₀ out marks answered passed e f =
-    all-three answered _ out _ marks _ (f .answers) (f .lines) (f .marked)
+handed rows columns lines rt ct out₀ marks₀ out marks answered numbered passed e none f =
+    all-four answered _ numbered 0 out _ marks _ (f .answers) none (f .lines) (f .marked)
     ∙ ap (Hands (allGroups rows columns (parityOf rows rt ct))) (sym (f .ran))
     ∙ ap (λ (gs : List Group). Hands gs (passesFrom (readLine lineLayer) gs s)) (all-groups rows columns rt ct)
     ∙ sym (repair-runs rows columns lines rt ct out₀ marks₀ 0 e refl)
@@ -127,16 +128,21 @@ handed rows columns lines rt ct out₀ marks₀ out marks answered passed e f =
     Hands gs r =
         record {
           answer = answer gs (r .cells);
+          number = 0;
           passes = r .passes;
           lines = bufferOf (linesOf (r .cells));
           marks = marksOf (r .cells);
         }
 
-    all-three : (a a′ : ℕ) (c c′ d d′ : List ℕ) → a ≡ a′ → c ≡ c′ → d ≡ d′
-        → _≡_ {A = StoreRepaired} (record { answer = a; passes = passed; lines = c; marks = d }) (record { answer = a′; passes = passed; lines = c′; marks = d′ })
-    all-three a a′ c c′ d d′ i k l = cc
+    all-four : (a a′ b b′ : ℕ) (c c′ d d′ : List ℕ) → a ≡ a′ → b ≡ b′ → c ≡ c′ → d ≡ d′
+        → _≡_ {A = StoreRepaired} (record { answer = a; number = b; passes = passed; lines = c; marks = d })
+        (record { answer = a′; number = b′; passes = passed; lines = c′; marks = d′ })
+    all-four a a′ b b′ c c′ d d′ i j k l = cc
 
-pub refused-whole : (rows columns : ℕ) (lines rt ct out marks : List ℕ) (r : ℕ) → r ≡ repairRefusal rows columns lines rt ct out marks
-    → (r ≡ 0 → ⊥) → _≡_ {A = StoreRepaired} (record { answer = r; passes = 0; lines = out; marks = marks })
+pub refused-whole : (rows columns : ℕ) (lines rt ct out marks : List ℕ) (r number : ℕ)
+    → r ≡ repairRefusal rows columns lines rt ct out marks → (r ≡ 0 → ⊥) → number ≡ repairNumber r rows columns rt ct
+    → _≡_ {A = StoreRepaired} (record { answer = r; number = number; passes = 0; lines = out; marks = marks })
     (repairStore rows columns lines rt ct out marks)
-refused-whole rows columns lines rt ct out marks r e d = sym (repair-refused rows columns lines rt ct out marks r (sym e) d)
+refused-whole rows columns lines rt ct out marks r number e d f =
+    ap (λ (k : ℕ). record { answer = r; number = k; passes = 0; lines = out; marks = marks }) f
+    ∙ sym (repair-refused rows columns lines rt ct out marks r (sym e) d)

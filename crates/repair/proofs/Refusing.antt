@@ -1,52 +1,32 @@
 -- What repair refuses.
-use mathlib.Core.Path.{_≡_, refl, sym, ap, ap₂, _∙_}
-use mathlib.Core.Bool.{Bool, true, false, _&&_, and-eq-true-iff}
-use mathlib.Core.List.{List, [], _∷_, _++_, map}
-use Prim.Native.Nat.{ℕ, _*_, _≤_}
+use mathlib.Core.Path.{_≡_, sym, ap, _∙_}
+use mathlib.Core.Bool.{Bool, true, _&&_, and-eq-true-iff}
+use mathlib.Core.List.{List}
+use Prim.Native.Nat.{ℕ, _*_, _≤_, _<_}
 use native.Mathlib.Nat.{mul-le-mul-right}
 use native.Mathlib.Omega.{arith}
 use borrow.Author.Tests.{eqb-true, eq-eqb, ne-eqb}
 use lib.Dec.{eqb}
 use lib.ListN.{length}
 use Rattle.linecode.specs.Places.{lineBytes}
-use Rattle.linecode.specs.Code.{upFrom}
-use Rattle.rectangle.specs.Store.{rowGroup, columnGroup, groups}
-use Rattle.rectangle.specs.Refusals.{unless, every, sidesFit, holds, parityCorrect, repairRefusal}
+use Rattle.rectangle.specs.Store.{rowGroup, columnGroup, rowGroups, columnGroups}
+use Rattle.rectangle.specs.Refusals.{unless, every, firstFailing, sidesFit, holds, parityCorrect, repairRefusal}
 use Rattle.rectangle.proofs.Groups.{sides}
-use Rattle.rectangle.proofs.Refusing.{sizeTests, sizes-refused, sizes-then, sizes-next, SizesPass}
+use Rattle.rectangle.proofs.Refusing.{sizeTests, sizes-refused, sizes-past, sizes-then, sizes-next, SizesPass}
+use Rattle.rectangle.proofs.First.{all-pass, one-fails}
 use Rattle.rectangle.proofs.Tests.{passed}
 use Rattle.groups.specs.Lent.{Rectangular}
 
--- ---- every one of a list
-and-assoc : (a b c : Bool) → a && (b && c) ≡ a && b && c
-and-assoc true b c = refl
-and-assoc false b c = refl
-
-every-append : {A : Type 0} (test : A → Bool) (k l : List A) → every test (k ++ l) ≡ every test k && every test l
-every-append test [] l = refl
-every-append test (a ∷ k) l = ap (λ (b : Bool). test a && b) (every-append test k l) ∙ and-assoc (test a) (every test k) (every test l)
-
-every-map : {A B : Type 0} (test : B → Bool) (f : A → B) (l : List A) → every test (map f l) ≡ every (λ a. test (f a)) l
-every-map test f [] = refl
-every-map test f (a ∷ l) = ap (λ (b : Bool). test (f a) && b) (every-map test f l)
-
--- refusal 9: each parity line of both tables
-parities : (rows columns : ℕ) (rt ct : List ℕ) → every parityCorrect (groups rows columns rt ct)
-    ≡ every (λ k. parityCorrect (rowGroup columns rt k)) (upFrom 0 rows)
-    && every (λ k. parityCorrect (columnGroup rows columns ct k)) (upFrom 0 columns)
-unfolding groups
-parities rows columns rt ct =
-    every-append parityCorrect (map (rowGroup columns rt) (upFrom 0 rows)) (map (columnGroup rows columns ct) (upFrom 0 columns))
-    ∙ ap₂ _&&_ (every-map parityCorrect (rowGroup columns rt) (upFrom 0 rows))
-    (every-map parityCorrect (columnGroup rows columns ct) (upFrom 0 columns))
-
 -- ---- the refusals
 module _ (rows columns : ℕ) (lines rt ct out marks : List ℕ) where
-  -- the tests after the sizes
+  -- the tests of the parity lines, and those after the sizes
+  abbrev parityTests : ℕ
+  parityTests =
+      unless (every parityCorrect (rowGroups rows columns rt)) 13
+      (unless (every parityCorrect (columnGroups rows columns ct)) 14 0)
+
   abbrev repairTests : ℕ
-  repairTests =
-      unless (holds (rows * columns) out && eqb (length marks) (rows * columns)) 7
-      (unless (every parityCorrect (groups rows columns rt ct)) 9 0)
+  repairTests = unless (holds (rows * columns) out && eqb (length marks) (rows * columns)) 7 parityTests
 
   pub refused-sizes : (r : ℕ) → r ≡ sizeTests rows columns lines rt ct → (r ≡ 0 → ⊥) → r ≡ repairRefusal rows columns lines rt ct out marks
   unfolding repairRefusal
@@ -61,33 +41,48 @@ module _ (rows columns : ℕ) (lines rt ct out marks : List ℕ) where
     unfolding holds lineBytes
     refused-out d =
         sym (then-tests p
-        ∙ ap (λ (b : Bool). unless (b && eqb (length marks) (rows * columns)) 7 (unless (every parityCorrect (groups rows columns rt ct)) 9 0))
+        ∙ ap (λ (b : Bool). unless (b && eqb (length marks) (rows * columns)) 7 parityTests)
         (ne-eqb (length out) (rows * columns * 70) d))
 
     module _ (o : length out ≡ rows * columns * 70) where
       marks-next : repairRefusal rows columns lines rt ct out marks
-          ≡ unless (eqb (length marks) (rows * columns)) 7 (unless (every parityCorrect (groups rows columns rt ct)) 9 0)
+          ≡ unless (eqb (length marks) (rows * columns)) 7 parityTests
       unfolding holds lineBytes
       marks-next =
           then-tests p
-          ∙ ap (λ (b : Bool). unless (b && eqb (length marks) (rows * columns)) 7 (unless (every parityCorrect (groups rows columns rt ct)) 9 0))
+          ∙ ap (λ (b : Bool). unless (b && eqb (length marks) (rows * columns)) 7 parityTests)
           (eq-eqb (length out) (rows * columns * 70) o)
 
       pub refused-marks : (length marks ≡ rows * columns → ⊥) → 7 ≡ repairRefusal rows columns lines rt ct out marks
       refused-marks d =
           sym (marks-next
-          ∙ ap (λ (b : Bool). unless b 7 (unless (every parityCorrect (groups rows columns rt ct)) 9 0))
+          ∙ ap (λ (b : Bool). unless b 7 parityTests)
           (ne-eqb (length marks) (rows * columns) d))
 
-      -- the parity lines decide
-      pub parity-decides : length marks ≡ rows * columns → (a b : Bool)
-          → every (λ k. parityCorrect (rowGroup columns rt k)) (upFrom 0 rows) ≡ a
-          → every (λ k. parityCorrect (columnGroup rows columns ct k)) (upFrom 0 columns) ≡ b
-          → unless (a && b) 9 0 ≡ repairRefusal rows columns lines rt ct out marks
-      parity-decides m a b e f =
-          sym (marks-next
-          ∙ ap₂ (λ (x y : Bool). unless x 7 (unless y 9 0)) (eq-eqb (length marks) (rows * columns) m)
-          (parities rows columns rt ct ∙ ap₂ _&&_ e f))
+      -- the first bad row and the first bad column decide
+      module _ (m : length marks ≡ rows * columns) (r : ℕ) (e : r ≡ firstFailing parityCorrect (rowGroups rows columns rt)) where
+        parity-next : repairRefusal rows columns lines rt ct out marks ≡ parityTests
+        parity-next = marks-next ∙ ap (λ (b : Bool). unless b 7 parityTests) (eq-eqb (length marks) (rows * columns) m)
+
+        pub refused-row : (r ≡ rows → ⊥) → 13 ≡ repairRefusal rows columns lines rt ct out marks
+        refused-row d = sym (parity-next ∙ rw (one-fails parityCorrect (rowGroup columns rt) rows (λ f. d (e ∙ f))))
+
+        module _ (all : r ≡ rows) (c : ℕ) (f : c ≡ firstFailing parityCorrect (columnGroups rows columns ct)) where
+          rows-pass : every parityCorrect (rowGroups rows columns rt) ≡ true
+          rows-pass = all-pass parityCorrect (rowGroup columns rt) rows (sym e ∙ all)
+
+          pub refused-column : (c ≡ columns → ⊥) → 14 ≡ repairRefusal rows columns lines rt ct out marks
+          refused-column d =
+              sym (parity-next ∙ rw (rows-pass, one-fails parityCorrect (columnGroup rows columns ct) columns (λ g. d (f ∙ g))))
+
+          pub refused-nothing : c ≡ columns → 0 ≡ repairRefusal rows columns lines rt ct out marks
+          refused-nothing g =
+              sym (parity-next ∙ rw (rows-pass, all-pass parityCorrect (columnGroup rows columns ct) columns (sym f ∙ g)))
+
+  -- 13 and 14 come past the sizes
+  pub numbered-tables : (a : ℕ) → a ≡ repairRefusal rows columns lines rt ct out marks → 6 < a → SizesPass rows columns lines rt ct
+  unfolding repairRefusal
+  numbered-tables a e more = sizes-past rows columns lines rt ct a repairTests (λ k l h z. omega arith) (sym e) .0
 
   -- not refused: the buffers have the lengths that they need
   pub record RepairPass : Type 0 where

@@ -16,10 +16,11 @@ ghost use Rattle.groups.specs.Lent.{Rectangular, Tracked};
 ghost use Rattle.repair.specs.Lent.{allGroups, Finished};
 use rectangle::sizes;
 
-// What repair answers, and its passes.
+// What repair answers, its passes, and the number of the row or column that comes with 13 or 14, otherwise 0.
 pub struct Repaired {
     pub answer: u32,
     pub passes: usize,
+    pub number: usize,
 }
 
 // The first refusal that fits, or 0: sizes and lengths before the parity lines, which are read.
@@ -54,11 +55,11 @@ fn refusal(
     if marks.len() != rows * columns {
         return 7;
     }
-    if !parity::rows_correct(table, rows, row_table) {
-        return 9;
+    if parity::first_bad_row(table, rows, row_table) != rows {
+        return 13;
     }
-    if !parity::columns_correct(table, columns, column_table) {
-        return 9;
+    if parity::first_bad_column(table, columns, column_table) != columns {
+        return 14;
     }
     0
 }
@@ -93,14 +94,19 @@ fn steps(
     requires room { ⌜ Rectangular rows columns (now out) (now marks) × (length (now found) ≡ rows * columns * 70)
         × (length (now lacks) ≡ 71680) ⌝ }
     requires some { ⌜ ((parity : (ℕ → Word)) × Tracked rows columns parity (now lacks) (replicate 1024 0) []) ⌝ }
-    ensures { λ r. ⌜ ((parity : ℕ → Word) → Tracked rows columns parity (now (lacks .entry)) (replicate 1024 0) []
+    ensures left { λ r. ⌜ ((parity : ℕ → Word) → Tracked rows columns parity (now (lacks .entry)) (replicate 1024 0) []
         → Finished rows columns parity (now (found .entry)) (now (out .exit)) (now (marks .exit)) (r .answer) (r .passes)) ⌝ }
+    ensures none { λ r. ⌜ r .number ≡ 0 ⌝ }
 {
     let mut faulty = [0u16; 1024];
     first_reading::read_all(table, found, out, marks, lacks, &mut faulty, rows, columns);
     let passes = passes::run_passes(table, out, marks, lacks, &mut faulty, rows, columns);
     let answer = answer_after(rows, columns, lacks, &faulty);
-    Repaired { answer, passes }
+    Repaired {
+        answer,
+        passes,
+        number: 0,
+    }
 }
 
 // Repair: lines and tables are read, the line buffer `out` and the mark buffer are written.
@@ -114,7 +120,13 @@ pub fn repair(
     marks: &mut [u8],
 ) -> Repaired
     ensures { λ r. ⌜ _≡_ {A = StoreRepaired}
-        (record { answer = r .answer; passes = r .passes; lines = now (out .exit); marks = now (marks .exit) })
+        (record {
+          answer = r .answer;
+          number = r .number;
+          passes = r .passes;
+          lines = now (out .exit);
+          marks = now (marks .exit);
+        })
         (repairStore rows columns (now (lines .entry)) (now («row_table» .entry)) (now («column_table» .entry))
         (now (out .entry)) (now (marks .entry))) ⌝ }
 {
@@ -133,6 +145,14 @@ pub fn repair(
         return Repaired {
             answer: turned_back,
             passes: 0,
+            number: parity::number_with(
+                turned_back,
+                &table,
+                rows,
+                columns,
+                row_table,
+                column_table,
+            ),
         };
     }
     let mut lacks = [0u8; 71680];

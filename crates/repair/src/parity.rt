@@ -1,12 +1,12 @@
-// The parity lines: whether each is a correct line, and what the differences start from.
+// The parity lines: the first that is not a correct line, and what the differences start from.
 // Public for the crate's other modules; the module is private, and what its functions ask, `repair::repair` has tested or made.
 ghost use mathlib.Core.Path.{_≡_};
 ghost use Prim.Native.Nat.{ℕ, _+_, _*_, _≤_, _<_};
 ghost use lib.ListN.{length};
 ghost use Rattle.linecode.specs.Places.{lineOf};
-ghost use Rattle.linecode.specs.Code.{upFrom};
-ghost use Rattle.rectangle.specs.Store.{placesAt, bytesAt, rowGroup, columnGroup};
-ghost use Rattle.rectangle.specs.Refusals.{every, parityCorrect};
+ghost use Rattle.rectangle.specs.Store.{placesAt, bytesAt, rowGroups, columnGroups};
+ghost use Rattle.rectangle.specs.Refusals.{firstFailing, parityCorrect};
+ghost use Rattle.rectangle.specs.Repair.{repairNumber};
 ghost use Rattle.line_table.specs.Table.{lineTable};
 use groups::tracked;
 use linecode::place;
@@ -14,37 +14,58 @@ use rectangle::lines;
 use rectangle::lines::ColumnIndex;
 use rectangle::lines::RowIndex;
 
-// Whether each row's parity line is a correct line, whatever the number of columns.
-pub fn rows_correct(table: &[u64; 4096], rows: usize, row_table: &[u8]) -> bool
+// The first row whose parity line isn't a correct line, or the number of rows, whatever the number of columns.
+pub fn first_bad_row(table: &[u64; 4096], rows: usize, row_table: &[u8]) -> usize
     requires table { ⌜ now table ≡ lineTable ⌝ }
     requires whole { ⌜ length (now «row_table») ≡ rows * 70 ⌝ }
-    ensures { λ r. ⌜ ((columns : ℕ) → r ≡ every (λ k. parityCorrect (rowGroup columns (now («row_table» .entry)) k)) (upFrom 0 rows)) ⌝ }
+    ensures { λ r. ⌜ ((columns : ℕ) → r ≡ firstFailing parityCorrect (rowGroups rows columns (now («row_table» .entry)))) ⌝ }
 {
     let mut r = 0;
     while r < rows {
         if !reading::is_correct(table, lines::row_parity(row_table, RowIndex(r))) {
-            return false;
+            return r;
         }
         r += 1;
     }
-    true
+    r
 }
 
-// Whether each column's parity line is a correct line, whatever the number of rows.
-pub fn columns_correct(table: &[u64; 4096], columns: usize, column_table: &[u8]) -> bool
+// The first column whose parity line isn't a correct line, or the number of columns, whatever the number of rows.
+pub fn first_bad_column(table: &[u64; 4096], columns: usize, column_table: &[u8]) -> usize
     requires table { ⌜ now table ≡ lineTable ⌝ }
     requires whole { ⌜ length (now «column_table») ≡ columns * 70 ⌝ }
-    ensures { λ r. ⌜ ((rows : ℕ)
-        → r ≡ every (λ k. parityCorrect (columnGroup rows columns (now («column_table» .entry)) k)) (upFrom 0 columns)) ⌝ }
+    ensures { λ r. ⌜ ((rows : ℕ) → r ≡ firstFailing parityCorrect (columnGroups rows columns (now («column_table» .entry)))) ⌝ }
 {
     let mut c = 0;
     while c < columns {
         if !reading::is_correct(table, lines::column_parity(column_table, ColumnIndex(c))) {
-            return false;
+            return c;
         }
         c += 1;
     }
-    true
+    c
+}
+
+// The number that comes with an answer: the first bad row with 13, the first bad column with 14, otherwise 0. Only a refusal asks for it.
+pub fn number_with(
+    answer: u32,
+    table: &[u64; 4096],
+    rows: usize,
+    columns: usize,
+    row_table: &[u8],
+    column_table: &[u8],
+) -> usize
+    requires table { ⌜ now table ≡ lineTable ⌝ }
+    requires whole { ⌜ (answer ≡ 13 → length (now «row_table») ≡ rows * 70) × (answer ≡ 14 → length (now «column_table») ≡ columns * 70) ⌝ }
+    ensures { λ r. ⌜ r ≡ repairNumber answer rows columns (now («row_table» .entry)) (now («column_table» .entry)) ⌝ }
+{
+    if answer == 13 {
+        return first_bad_row(table, rows, row_table);
+    }
+    if answer == 14 {
+        return first_bad_column(table, columns, column_table);
+    }
+    0
 }
 
 // The rows' differences start as their parity lines.

@@ -21,7 +21,7 @@ number-with-requires c κs =
     let a = c .before .before .before .before .before .before .before .before .before .args in
     let some = numbered-columns (a .rows) (a .columns) (a .lines .now) (a .row-table .now) (a .column-table .now) (a .n) (a .payload .now) _
         (c .before .refusal .ensures) in
-    (λ e. some (λ f. omega arith), λ e. some (λ f. omega arith))
+    (λ e. some (omega arith), λ e. some (omega arith))
 
 same-length : tie.Need-same-length
 same-length c = search needs

@@ -1,11 +1,8 @@
 -- `repair::refusal` meets its contract: each way out is the first test that fails.
 use native.Mathlib.Omega.{arith}
 use borrow.Author.Needs.{needs}
-use mathlib.Core.Path.{refl, sym, _∙_}
-use mathlib.Core.Bool.{true, false}
-use borrow.Author.Tests.{not-true, not-false}
 use Rattle.rectangle.proofs.Refusing.{SizesPass, sizes-passed}
-use Rattle.repair.proofs.Refusing.{refused-sizes, refused-out, refused-marks, parity-decides, few}
+use Rattle.repair.proofs.Refusing.{refused-sizes, refused-out, refused-marks, refused-row, refused-column, refused-nothing, few}
 use Rattle.repair.proofs.refusal.Statement.{statement}
 use Rattle.repair.proofs.refusal.Tie as tie
 
@@ -39,20 +36,31 @@ returns-3 : tie.Need-returns-3
 returns-3 c =
     refused-marks _ _ _ _ _ _ _ (sizes (c .before .before)) (c .before .if2 .left) (λ e. omega (arith, c .if3 .taken))
 
-rows-correct-requires : tie.Need-rows-correct-requires
-rows-correct-requires c κs = (c .before .before .before .before .before .before .before .before .before .pre, sizes (c .before .before) .rowBytes)
+first-bad-row-requires : tie.Need-first-bad-row-requires
+first-bad-row-requires c κs = (c .before .before .before .before .before .before .before .before .before .pre, sizes (c .before .before) .rowBytes)
 
 returns-4 : tie.Need-returns-4
-returns-4 c = parity-decides _ _ _ _ _ _ _ (sizes (c .before .before .before .before)) (c .before .before .before .if2 .left) (c .before .before .if3 .left) false _ (sym (c .before .rows-correct .ensures _) ∙ not-true _ (c .if4 .taken)) (refl)
+returns-4 c =
+    let lengths = c .before .before in
+    refused-row _ _ _ _ _ _ _ (sizes (lengths .before .before)) (lengths .before .if2 .left) (lengths .if3 .left) _
+    (c .before .first-bad-row .ensures _) (c .if4 .taken)
 
-columns-correct-requires : tie.Need-columns-correct-requires
-columns-correct-requires c κs = (c .before .before .before .before .before .before .before .before .before .before .before .pre, sizes (c .before .before .before .before) .columnBytes)
+first-bad-column-requires : tie.Need-first-bad-column-requires
+first-bad-column-requires c κs = (c .before .before .before .before .before .before .before .before .before .before .before .pre, sizes (c .before .before .before .before) .columnBytes)
 
 returns-5 : tie.Need-returns-5
-returns-5 c = parity-decides _ _ _ _ _ _ _ (sizes (c .before .before .before .before .before .before)) (c .before .before .before .before .before .if2 .left) (c .before .before .before .before .if3 .left) true false (sym (c .before .before .before .rows-correct .ensures _) ∙ not-false _ (c .before .before .if4 .left)) (sym (c .before .columns-correct .ensures _) ∙ not-true _ (c .if5 .taken))
+returns-5 c =
+    let rows = c .before .before in
+    let lengths = rows .before .before in
+    refused-column _ _ _ _ _ _ _ (sizes (lengths .before .before)) (lengths .before .if2 .left) (lengths .if3 .left) _
+    (rows .before .first-bad-row .ensures _) (rows .if4 .left) _ (c .before .first-bad-column .ensures _) (c .if5 .taken)
 
 returns-6 : tie.Need-returns-6
-returns-6 c = parity-decides _ _ _ _ _ _ _ (sizes (c .before .before .before .before .before .before)) (c .before .before .before .before .before .if2 .left) (c .before .before .before .before .if3 .left) true true (sym (c .before .before .before .rows-correct .ensures _) ∙ not-false _ (c .before .before .if4 .left)) (sym (c .before .columns-correct .ensures _) ∙ not-false _ (c .if5 .left))
+returns-6 c =
+    let rows = c .before .before in
+    let lengths = rows .before .before in
+    refused-nothing _ _ _ _ _ _ _ (sizes (lengths .before .before)) (lengths .before .if2 .left) (lengths .if3 .left) _
+    (rows .before .first-bad-row .ensures _) (rows .if4 .left) _ (c .before .first-bad-column .ensures _) (c .if5 .left)
 
 pub refusal-spec : {M : Type 1} → statement M
 refusal-spec =
@@ -65,8 +73,8 @@ refusal-spec =
     returns-2
     mul-if3
     returns-3
-    rows-correct-requires
+    first-bad-row-requires
     returns-4
-    columns-correct-requires
+    first-bad-column-requires
     returns-5
     returns-6)

@@ -1,8 +1,9 @@
 -- `repair::repair` meets its contract.
+use native.Mathlib.Omega.{arith}
 use borrow.Author.Needs.{needs}
 use mathlib.Core.Path.{sym, _∙_}
 use Rattle.repair.specs.Lent.{parityOf}
-use Rattle.repair.proofs.Refusing.{repair-passes}
+use Rattle.repair.proofs.Refusing.{repair-passes, numbered-tables}
 use Rattle.repair.proofs.Handing.{zero-bytes-long, started, handed, refused-whole}
 use Rattle.repair.proofs.repair.Statement.{statement}
 use Rattle.repair.proofs.repair.Tie as tie
@@ -13,6 +14,11 @@ lent-requires c κs = search needs
 refusal-requires : tie.Need-refusal-requires
 refusal-requires c κs = c .before .before .before .lent .ensures
 
+number-with-requires : tie.Need-number-with-requires
+number-with-requires c κs =
+    let sizes = numbered-tables _ _ _ _ _ _ _ _ (c .before .before .refusal .ensures) in
+    (c .before .before .before .before .before .before .lent .ensures, (λ e. sizes (omega arith) .rowBytes, λ e. sizes (omega arith) .columnBytes))
+
 same-length : tie.Need-same-length
 same-length c = search needs
 
@@ -20,7 +26,7 @@ same-length-2 : tie.Need-same-length-2
 same-length-2 c = search needs
 
 returns : tie.Need-returns
-returns c = refused-whole _ _ _ _ _ _ _ _ (c .before .refusal .ensures) (c .if1 .taken)
+returns c = refused-whole _ _ _ _ _ _ _ _ _ (c .before .before .before .refusal .ensures) (c .before .before .if1 .taken) (c .number-with .ensures)
 
 slice-aggregate-start-rows : tie.Need-slice-aggregate-start-rows
 slice-aggregate-start-rows c = search needs
@@ -61,8 +67,8 @@ returns-2 : tie.Need-returns-2
 returns-2 c =
     let none = sym (c .before .before .before .before .before .before .before .before .before .before .before .before .before .before .before .before .before .refusal .ensures) ∙ c .before .before .before .before .before .before .before .before .before .before .before .before .before .before .before .before .if1 .left in
     let passed = repair-passes _ _ _ _ _ _ _ none in
-    handed _ _ _ _ _ _ _ _ _ _ _ none
-    (c .before .before .before .before .before .steps .ensures _ (started _ _ _ _ _ _ (passed .rect .rowsHigh) (passed .rect .columnsHigh) (passed .sizes .rowBytes) (passed .sizes .columnBytes) (c .before .before .before .before .before .before .before .before .before .before .before .before .before .before .start-rows .ensures) (c .before .before .before .before .before .before .before .before .before .before .before .start-columns .ensures .0) (c .before .before .before .before .before .before .before .before .before .before .before .start-columns .ensures .1)))
+    handed _ _ _ _ _ _ _ _ _ _ _ _ none (c .before .before .before .before .before .steps .ensures .1)
+    (c .before .before .before .before .before .steps .ensures .0 _ (started _ _ _ _ _ _ (passed .rect .rowsHigh) (passed .rect .columnsHigh) (passed .sizes .rowBytes) (passed .sizes .columnBytes) (c .before .before .before .before .before .before .before .before .before .before .before .before .before .before .start-rows .ensures) (c .before .before .before .before .before .before .before .before .before .before .before .start-columns .ensures .0) (c .before .before .before .before .before .before .before .before .before .before .before .start-columns .ensures .1)))
 
 pub repair-spec : {M : Type 1} → statement M
 repair-spec =
@@ -70,6 +76,7 @@ repair-spec =
     (tie.spec
     lent-requires
     refusal-requires
+    number-with-requires
     same-length
     same-length-2
     returns
