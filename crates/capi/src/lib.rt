@@ -1,5 +1,5 @@
 // The C interface: the entry points over slices and numbers, for programs in other languages to link.
-// In C a slice is a pointer and a length, and the mark and the passes are returned through a pointer.
+// In C a slice is a pointer and a length; the mark, the passes and the number are each returned through a pointer.
 use linecode::place;
 use single::alone;
 ghost use mathlib.Core.Path.{_≡_};
@@ -87,7 +87,7 @@ pub extern "C" fn sudoku_make_tables(
     tables::make_tables(rows, columns, lines, row_table, column_table)
 }
 
-// Line n written anew from 64 data bytes, with its two parity lines.
+// Line n written anew from 64 data bytes, with its two parity lines, and the number that comes with 13 or 14.
 #[no_mangle]
 pub extern "C" fn sudoku_change_line(
     rows: usize,
@@ -97,10 +97,12 @@ pub extern "C" fn sudoku_change_line(
     column_table: &mut [u8],
     n: usize,
     payload: &[u8],
+    number: &mut u64,
 ) -> u32
     ensures { λ r. ⌜ _≡_ {A = LineChanged}
         (record {
           answer = r;
+          number = now (number .exit);
           lines = now (lines .exit);
           rowTable = now («row_table» .exit);
           columnTable = now («column_table» .exit);
@@ -108,10 +110,20 @@ pub extern "C" fn sudoku_change_line(
         (changeLine rows columns (now (lines .entry)) (now («row_table» .entry)) (now («column_table» .entry)) n
         (now (payload .entry))) ⌝ }
 {
-    change::change_line(rows, columns, lines, row_table, column_table, n, payload)
+    let changed = change::change_line(
+        rows,
+        columns,
+        lines,
+        row_table,
+        column_table,
+        n,
+        payload,
+    );
+    *number = changed.number as u64;
+    changed.answer
 }
 
-// Repair of the lines into `out` and `marks`, and its passes.
+// Repair of the lines into `out` and `marks`, its passes, and the number that comes with 13 or 14.
 #[no_mangle]
 pub extern "C" fn sudoku_repair(
     rows: usize,
@@ -122,12 +134,21 @@ pub extern "C" fn sudoku_repair(
     out: &mut [u8],
     marks: &mut [u8],
     passes: &mut u64,
+    number: &mut u64,
 ) -> u32
     ensures { λ r. ⌜ _≡_ {A = StoreRepaired}
-        (record { answer = r; passes = now (passes .exit); lines = now (out .exit); marks = now (marks .exit) })
-        (repairStore rows columns (now (lines .entry)) (now («row_table» .entry)) (now («column_table» .entry)) (now (out .entry)) (now (marks .entry))) ⌝ }
+        (record {
+          answer = r;
+          number = now (number .exit);
+          passes = now (passes .exit);
+          lines = now (out .exit);
+          marks = now (marks .exit);
+        })
+        (repairStore rows columns (now (lines .entry)) (now («row_table» .entry)) (now («column_table» .entry))
+        (now (out .entry)) (now (marks .entry))) ⌝ }
 {
     let repaired = repair::repair(rows, columns, lines, row_table, column_table, out, marks);
     *passes = repaired.passes as u64;
+    *number = repaired.number as u64;
     repaired.answer
 }

@@ -16,7 +16,7 @@ use Rattle.rectangle.proofs.Buffer.{holds-length, length-holds, equal-linesIn, 
 use Rattle.rectangle.proofs.Groups.{Sides, sides}
 use Rattle.rectangle.proofs.Tests.{lengths-tables, tables-pass, tables-passed}
 use Rattle.rectangle.proofs.Runs.{zero-or-not, tables-run, tables-refused}
-use Rattle.demands.proofs.Parity.{rowParity-correct, columnParity-correct, rowTable-at, columnTable-at, row-passes, column-passes, parities-pass}
+use Rattle.demands.proofs.Parity.{rowParity-correct, columnParity-correct, rowTable-at, columnTable-at, row-passes, column-passes}
 use Rattle.demands.proofs.Written.{written-bytes, written-accepted, written-row, written-column}
 
 pub rowTable-bytes : (rows columns : ℕ) (lines : List ℕ) → length (rowTableOf rows columns lines) ≡ rows * lineBytes
@@ -41,7 +41,7 @@ module _ (promises : Promises lineLayer) where
     pub line-bytes : length (r .lines) ≡ count r * lineBytes
     line-bytes = holds-length (count r) (r .lines) (agrees .lineBytes)
 
-    -- refusal 9 accepts every parity line
+    -- refusals 13 and 14 accept every parity line
     pub row-accepted : (k : ℕ) → k < r .rows → parityCorrect (rowGroup (r .columns) (r .rowTable) k) ≡ true
     row-accepted =
         row-passes promises (r .rows) (r .columns) some-rows some-columns (r .lines) line-bytes (agrees .accepted) (r .rowTable)
@@ -50,11 +50,6 @@ module _ (promises : Promises lineLayer) where
     pub column-accepted : (k : ℕ) → k < r .columns → parityCorrect (columnGroup (r .rows) (r .columns) (r .columnTable) k) ≡ true
     column-accepted =
         column-passes promises (r .rows) (r .columns) some-rows some-columns (r .lines) line-bytes (agrees .accepted) (r .rowTable)
-        (r .columnTable) (agrees .rowTable) (agrees .columnTable)
-
-    pub tables-accepted : every parityCorrect (groups (r .rows) (r .columns) (r .rowTable) (r .columnTable)) ≡ true
-    tables-accepted =
-        parities-pass promises (r .rows) (r .columns) some-rows some-columns (r .lines) line-bytes (agrees .accepted) (r .rowTable)
         (r .columnTable) (agrees .rowTable) (agrees .columnTable)
 
     -- tables made anew have the places of its tables

@@ -196,6 +196,7 @@ module _ (promises : Promises lineLayer) where
     made : changeIn r n payload
         ≡ record {
           answer = 0;
+          number = 0;
           lines = changedLines;
           rowTable = addTo (r .rowTable) (n / r .columns) (difference (r .lines) n payload);
           columnTable = addTo (r .columnTable) (n % r .columns) (difference (r .lines) n payload);

@@ -19,7 +19,7 @@ use Rattle.demands.specs.Demands.{Rectangle, count, repairOf, Written, A
 use Rattle.rectangle.proofs.Buffer.{linesIn-equal}
 use Rattle.rectangle.proofs.Groups.{rising-groups, equal-groups}
 use Rattle.rectangle.proofs.Runs.{repair-runs}
-use Rattle.demands.proofs.Parity.{parities-pass}
+use Rattle.demands.proofs.Parity.{rows-pass, columns-pass}
 use Rattle.demands.proofs.Written.{wordsOf, rectangleOf, some-rows, some-columns, written-bytes, written-accepted, written-row, written-column, store-written}
 use Rattle.demands.proofs.Order.{received, mendable}
 
@@ -72,7 +72,11 @@ module _ (promises : Promises lineLayer) where
             bounds .tableBytes,
             outBytes,
             eq-eqb (length marks) (count w) markBytes,
-            parities-pass promises (w .rows) (w .columns) (some-rows promises w written) (some-columns promises w written) (w .lines)
+            rows-pass promises (w .rows) (w .columns) (some-rows promises w written) (some-columns promises w written) (w .lines)
+                (written-bytes promises w written) (written-accepted promises w written) rowTable columnTable
+                (λ r h. rows-agree r h ∙ written-row promises w written r h)
+                (λ c h. columns-agree c h ∙ written-column promises w written c h),
+            columns-pass promises (w .rows) (w .columns) (some-rows promises w written) (some-columns promises w written) (w .lines)
                 (written-bytes promises w written) (written-accepted promises w written) rowTable columnTable
                 (λ r h. rows-agree r h ∙ written-row promises w written r h)
                 (λ c h. columns-agree c h ∙ written-column promises w written c h),

@@ -2,6 +2,7 @@
 pub mod Refused
 pub mod Handed
 pub mod Marks
+pub mod Reload
 -- The demands: read Kept last.
 pub mod Parity
 pub mod ParityLines

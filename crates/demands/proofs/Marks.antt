@@ -104,6 +104,7 @@ unfolding handedOver
 same-handed gs one two same =
     record {
       answer = same .answers;
+      number = refl;
       passes = same .passes;
       lines = ap bufferOf (same .lines);
       count = counted (one .cells) ∙ ap length (same .lines) ∙ sym (counted (two .cells));
@@ -124,4 +125,4 @@ repairedAsBefore r out marks = go (zero-or-not (refusal r out marks))
         (acceptedMarksDecideNothing (readLine layerBefore) (readLine lineLayer) (λ n. as-before (lineLayer .address n))
         (groups (r .rows) (r .columns) (r .rowTable) (r .columnTable)) (linesIn (count r) (r .lines))))
     go (inr d) =
-        rw (ne-eqb _ 0 d, refused r out marks d) (record { answer = refl; passes = refl; lines = refl; count = refl; marks = λ n. inl refl })
+        rw (ne-eqb _ 0 d, refused r out marks d) (record { answer = refl; number = refl; passes = refl; lines = refl; count = refl; marks = λ n. inl refl })

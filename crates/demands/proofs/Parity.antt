@@ -15,13 +15,13 @@ use Rattle.scheme.specs.Layer.{readLine, CorrectLine, parityAddress, ReadsAs, P
 use Rattle.scheme.specs.Visit.{sum}
 use Rattle.scheme.specs.Demand3.{_∈_}
 use Rattle.scheme.proofs.Written.{parity-correct}
-use Rattle.rectangle.specs.Store.{lineLayer, placesAt, aloneAt, stride, row, column, rowGroup, columnGroup, groups}
+use Rattle.rectangle.specs.Store.{lineLayer, placesAt, aloneAt, stride, row, column, rowGroup, columnGroup, rowGroups, columnGroups}
 use Rattle.rectangle.specs.Refusals.{every, parityCorrect, acceptedAt}
 use Rattle.rectangle.specs.Tables.{rowParity, columnParity, rowTableOf, columnTableOf}
 use Rattle.rectangle.proofs.LineLayer.{parity-passes}
 use Rattle.rectangle.proofs.Buffer.{length-placesAt, table-at}
-use Rattle.rectangle.proofs.Groups.{row-inside, column-inside, by-groups}
-use Rattle.rectangle.proofs.Tests.{every-true}
+use Rattle.rectangle.proofs.Groups.{row-inside, column-inside}
+use Rattle.rectangle.proofs.Tests.{every-image}
 
 module _ (promises : Promises lineLayer) where
   -- a correct line reads alone as itself
@@ -96,7 +96,7 @@ module _ (promises : Promises lineLayer) where
         table-at (columnParity rows columns lines) columns
         (λ n i. promises .sized (parityAddress lineLayer (column rows columns n)) _ (columnParity-correct n i)) c h
 
-    -- tables whose parity lines have these places are accepted by refusal 9
+    -- tables whose parity lines have these places are accepted by refusals 13 and 14
     module _ (rowTable columnTable : List ℕ) (rowsAgree : (r : ℕ) → r < rows → placesAt rowTable r ≡ rowParity columns lines r)
         (columnsAgree : (c : ℕ) → c < columns → placesAt columnTable c ≡ columnParity rows columns lines c) where
       pub row-passes : (r : ℕ) → r < rows → parityCorrect (rowGroup columns rowTable r) ≡ true
@@ -105,7 +105,8 @@ module _ (promises : Promises lineLayer) where
       pub column-passes : (c : ℕ) → c < columns → parityCorrect (columnGroup rows columns columnTable c) ≡ true
       column-passes c h = parity-passes (columnGroup rows columns columnTable c) _ (columnsAgree c h) (columnParity-correct c h)
 
-      pub parities-pass : every parityCorrect (groups rows columns rowTable columnTable) ≡ true
-      parities-pass =
-          every-true parityCorrect (groups rows columns rowTable columnTable)
-          (by-groups rows columns some rowTable columnTable (λ g. parityCorrect g ≡ true) row-passes column-passes)
+      pub rows-pass : every parityCorrect (rowGroups rows columns rowTable) ≡ true
+      rows-pass = every-image parityCorrect (rowGroup columns rowTable) rows row-passes
+
+      pub columns-pass : every parityCorrect (columnGroups rows columns columnTable) ≡ true
+      columns-pass = every-image parityCorrect (columnGroup rows columns columnTable) columns column-passes

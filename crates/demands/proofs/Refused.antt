@@ -14,7 +14,7 @@ use Rattle.rectangle.specs.Store.{lineLayer, linesIn, groups}
 use Rattle.rectangle.specs.Refusals.{tablesRefusal, changeRefusal, repairRefusal}
 use Rattle.rectangle.specs.Tables.{TablesMade}
 use Rattle.rectangle.specs.Change.{LineChanged}
-use Rattle.rectangle.specs.Repair.{repaired, handsOver, handedOver}
+use Rattle.rectangle.specs.Repair.{repaired, handsOver, handedOver, repairNumber}
 use Rattle.demands.specs.Demands.{Rectangle, count, tablesFor, changeIn, repairOf, stepsOn, RefusalsWriteNothing, HandsOverAsLeft, GivenUpLast}
 use Rattle.rectangle.proofs.Runs.{zero-or-not, answer-hands-over, refusal-hands-nothing, tables-run, tables-refused, change-runs, change-refused, repair-runs, repair-refused}
 
@@ -36,7 +36,15 @@ module _ (r : Rectangle) (out marks : List ℕ) where
   unfolding repairOf refusal
   runs = repair-runs (r .rows) (r .columns) (r .lines) (r .rowTable) (r .columnTable) out marks _ refl
 
-  pub refused : (refusal ≡ 0 → ⊥) → repairOf r out marks ≡ record { answer = refusal; passes = 0; lines = out; marks = marks }
+  pub refused : (refusal ≡ 0 → ⊥)
+      → repairOf r out marks
+      ≡ record {
+        answer = refusal;
+        number = repairNumber refusal (r .rows) (r .columns) (r .rowTable) (r .columnTable);
+        passes = 0;
+        lines = out;
+        marks = marks;
+      }
   unfolding repairOf refusal
   refused = repair-refused (r .rows) (r .columns) (r .lines) (r .rowTable) (r .columnTable) out marks _ refl
 

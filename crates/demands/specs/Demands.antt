@@ -44,14 +44,14 @@ repairOf r out marks = repairStore (r .rows) (r .columns) (r .lines) (r .rowTabl
 abbrev pub stepsOn : Rectangle → Repaired
 stepsOn r = repaired (r .rows) (r .columns) (r .lines) (r .rowTable) (r .columnTable)
 
--- ---- Demand 1: "Refusals up to 10 write nothing;"
+-- ---- Demand 1: "Refusals up to 10 write nothing;", and so does every number that a request adds: any answer but 0, 11 and 12
 pub record RefusalsWriteNothing : Type 0 where
   pub tables : (r : Rectangle) (oldRows oldColumns : List ℕ) → (tablesFor r oldRows oldColumns .answer ≡ 0 → ⊥)
       → (tablesFor r oldRows oldColumns .rowTable ≡ oldRows) × (tablesFor r oldRows oldColumns .columnTable ≡ oldColumns)
   pub change : (r : Rectangle) (n : ℕ) (payload : List ℕ) → (changeIn r n payload .answer ≡ 0 → ⊥)
       → (changeIn r n payload .lines ≡ r .lines) × (changeIn r n payload .rowTable ≡ r .rowTable)
       × (changeIn r n payload .columnTable ≡ r .columnTable)
-  -- a refusal of repair is an answer that hands nothing over
+  -- a refusal of repair is an answer that hands nothing over: not 0, 11 or 12
   pub repair : (r : Rectangle) (out marks : List ℕ) → handsOver (repairOf r out marks .answer) ≡ false
       → (repairOf r out marks .lines ≡ out) × (repairOf r out marks .marks ≡ marks) × (repairOf r out marks .passes ≡ 0)
 

@@ -1,3 +1,5 @@
--- What the customer demands, each sentence above its statement; then what request Q-1 says of the marks.
+-- What the customer demands, each sentence above its statement; then what request Q-1 says of the marks
+-- and request Q-2 of the tables.
 pub mod Demands
 pub mod Marks
+pub mod Reload

@@ -13,7 +13,7 @@ use Rattle.scheme.specs.Repair.{repair}
 use Rattle.rectangle.specs.Store.{lineLayer, placesAt, linesIn, aloneAt, groups}
 use Rattle.rectangle.specs.Before.{layerBefore}
 use Rattle.rectangle.specs.Refusals.{acceptedAt, repairRefusal}
-use Rattle.rectangle.specs.Repair.{StoreRepaired, handsOver, handedOver}
+use Rattle.rectangle.specs.Repair.{StoreRepaired, handsOver, handedOver, repairNumber}
 use Rattle.demands.specs.Demands.{Rectangle, count, repairOf}
 
 -- ---- "Reading alone now says whether any of the 553 places was rewritten, and mark 1 means an accepted line that was rewritten anywhere.
@@ -42,11 +42,18 @@ repairBefore r out marks =
     let refusal = repairRefusal (r .rows) (r .columns) (r .lines) (r .rowTable) (r .columnTable) out marks in
     let gs = groups (r .rows) (r .columns) (r .rowTable) (r .columnTable) in
     cond (eqb refusal 0) (handedOver gs (repair (readLine layerBefore) gs (linesIn (count r) (r .lines))))
-    (record { answer = refusal; passes = 0; lines = out; marks = marks })
+    (record {
+      answer = refusal;
+      number = repairNumber refusal (r .rows) (r .columns) (r .rowTable) (r .columnTable);
+      passes = 0;
+      lines = out;
+      marks = marks;
+    })
 
--- the same answer, passes and bytes of lines; as many marks, each the same, or 0 or 1 then and now, so that marks 2, 3 and 4 are as before
+-- the same answer, number, passes and bytes of lines; as many marks, each the same, or 0 or 1 then and now, so that marks 2, 3 and 4 are as before
 pub record SameButMarks (before now : StoreRepaired) : Type 0 where
   pub answer : before .answer ≡ now .answer
+  pub number : before .number ≡ now .number
   pub passes : before .passes ≡ now .passes
   pub lines : before .lines ≡ now .lines
   pub count : length (before .marks) ≡ length (now .marks)

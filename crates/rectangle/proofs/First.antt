@@ -8,7 +8,7 @@ use native.Mathlib.Nat.{zero-add, le-of-suc-le-suc, not-suc-le-zero, lt-of-not-l
 use native.Mathlib.Omega.{arith}
 use Rattle.linecode.specs.Code.{upFrom}
 use Rattle.rectangle.specs.Refusals.{every, firstFailing}
-use Rattle.rectangle.proofs.Tests.{every-map, every-below, fails-below}
+use Rattle.rectangle.proofs.Tests.{every-image, image-fails}
 
 pub first-map : {A B : Type 0} (test : B → Bool) (f : A → B) (l : List A) → firstFailing test (map f l) ≡ firstFailing (λ a. test (f a)) l
 first-map test f [] = refl
@@ -70,16 +70,18 @@ first-is test f n r one =
 -- all of them pass exactly if it is one past the last
 module _ {A : Type 0} (test : A → Bool) (f : ℕ → A) (n : ℕ) where
   pub all-pass : firstFailing test (map f (upFrom 0 n)) ≡ n → every test (map f (upFrom 0 n)) ≡ true
-  all-pass e =
-      every-map test f (upFrom 0 n) ∙ every-below (λ k. test (f k)) n (λ k h. first-of test f n .before k (omega arith))
+  all-pass e = every-image test f n (λ k h. first-of test f n .before k (omega arith))
 
-  pub one-fails : (firstFailing test (map f (upFrom 0 n)) ≡ n → ⊥) → every test (map f (upFrom 0 n)) ≡ false
-  one-fails d = go (eq-or-lt-of-le (first-of test f n .few))
+  pub inside : (firstFailing test (map f (upFrom 0 n)) ≡ n → ⊥) → firstFailing test (map f (upFrom 0 n)) < n
+  inside d = go (eq-or-lt-of-le (first-of test f n .few))
     where
       go : (firstFailing test (map f (upFrom 0 n)) ≡ n) ⊎ (firstFailing test (map f (upFrom 0 n)) < n)
-          → every test (map f (upFrom 0 n)) ≡ false
+          → firstFailing test (map f (upFrom 0 n)) < n
       go (inl e) = absurd (d e)
-      go (inr h) = every-map test f (upFrom 0 n) ∙ fails-below (λ k. test (f k)) n _ h (first-of test f n .fails h)
+      go (inr h) = h
+
+  pub one-fails : (firstFailing test (map f (upFrom 0 n)) ≡ n → ⊥) → every test (map f (upFrom 0 n)) ≡ false
+  one-fails d = image-fails test f n _ (inside d) (first-of test f n .fails (inside d))
 
 -- ---- r of so many have passed
 pub record Passed (test : ℕ → Bool) (total r : ℕ) : Type 0 where

@@ -1,55 +1,99 @@
 -- The three entry points without their choice: what a call that is not refused gives, and what a refused one leaves.
 use mathlib.Core.Path.{_≡_, refl, _∙_}
 use mathlib.Core.Logic.{_⊎_, inl, inr}
-use mathlib.Core.Bool.{Bool, true, false, not, cond, _&&_, _||_}
+use mathlib.Core.Bool.{Bool, true, false, not, cond, _&&_}
 use mathlib.Core.List.{List, [], _∷_}
 use Prim.Native.Nat.{ℕ, zero, suc, _*_, _/_, _%_}
 use native.Mathlib.Omega.{arith}
 use borrow.Author.Tests.{ne-eqb, not-true}
-use lib.Dec.{eqb}
+use lib.Dec.{eqb, ltb}
 use lib.ListN.{length}
+use Rattle.linecode.specs.Places.{dataBytes}
+use Rattle.linecode.specs.Code.{upFrom}
 use Rattle.scheme.specs.Visit.{Group, State}
+use Rattle.scheme.specs.Demand3.{_∈_}
 use Rattle.scheme.specs.Repair.{faultyCount, agrees, answer}
-use Rattle.rectangle.specs.Store.{putLine, rowGroups, columnGroups, groups}
-use Rattle.rectangle.specs.Refusals.{every, sidesFit, holds, tablesFit, parityCorrect, tablesRefusal, changeRefusal, repairRefusal, numberWith}
+use Rattle.rectangle.specs.Store.{putLine, rowGroup, columnGroup, rowGroups, columnGroups, groups}
+use Rattle.rectangle.specs.Refusals.{every, sidesFit, holds, tablesFit, parityCorrect, acceptedAt, tablesRefusal, tablesAnswers, changeRefusal, changeAnswers, repairRefusal, repairAnswers, numberWith}
 use Rattle.rectangle.specs.Tables.{rowTableOf, columnTableOf, makeTables}
 use Rattle.rectangle.specs.Change.{newLine, difference, addTo, changeLine}
 use Rattle.rectangle.specs.Repair.{repaired, handsOver, handedOver, repairNumber, repairStore}
-use Rattle.rectangle.proofs.Tests.{refusal-among}
+use Rattle.rectangle.proofs.Tests.{every-at, refusal-in}
+use Rattle.rectangle.proofs.Members.{in-left, in-right}
 
 -- a refusal is 0 or not
 pub zero-or-not : (n : ℕ) → (n ≡ 0) ⊎ (n ≡ 0 → ⊥)
 zero-or-not zero = inl refl
 zero-or-not (suc n) = inr (λ e. omega arith)
 
--- the steps' own answers hand over
-pub answer-hands-over : (gs : List Group) (s : State) → handsOver (answer gs s) ≡ true
-unfolding answer handsOver
-answer-hands-over gs s = go (eqb (faultyCount s) 0) (agrees gs s)
+-- the steps' own answers
+pub answer-own : (gs : List Group) (s : State) → answer gs s ∈ (0 ∷ 11 ∷ 12 ∷ [])
+unfolding answer
+answer-own gs s = go (eqb (faultyCount s) 0) (agrees gs s)
   where
-    go : (none agree : Bool) → handsOver (cond none (cond agree 0 12) 11) ≡ true
-    go true true = refl
-    go true false = refl
-    go false agree = refl
+    go : (none agree : Bool) → _∈_ {A = ℕ} (cond none (cond agree 0 12) 11) (0 ∷ 11 ∷ 12 ∷ [])
+    go true true = inl refl
+    go true false = inr (inr (inl refl))
+    go false agree = inr (inl refl)
+
+-- hand over
+pub answer-hands-over : (gs : List Group) (s : State) → handsOver (answer gs s) ≡ true
+unfolding handsOver
+answer-hands-over gs s = every-at handsOver (0 ∷ 11 ∷ 12 ∷ []) refl (answer gs s) (answer-own gs s)
+
+-- what repair answers before its steps
+abbrev repairRefusals : List ℕ
+repairRefusals = 0 ∷ 2 ∷ 5 ∷ 6 ∷ 7 ∷ 13 ∷ 14 ∷ []
 
 module _ (rows columns : ℕ) (lines rowTable columnTable : List ℕ) where
-  -- and no refusal does
-  nothing : (n : ℕ) → (n ≡ 0 → ⊥) → eqb n 0 || not (handsOver n) ≡ true → handsOver n ≡ false
-  nothing n d e = not-true _ (rw (ne-eqb n 0 d) at e)
+  -- ---- each entry point's refusals, 0 among them
+  pub tables-refusals : tablesRefusal rows columns lines rowTable columnTable ∈ tablesAnswers
+  unfolding tablesRefusal
+  tables-refusals =
+      refusal-in
+      ((sidesFit rows columns, 2)
+      ∷ (holds (rows * columns) lines, 5)
+      ∷ (tablesFit rows columns rowTable columnTable, 6)
+      ∷ (every (acceptedAt lines) (upFrom 0 (rows * columns)), 10)
+      ∷ [])
 
-  pub refusal-hands-nothing : (out marks : List ℕ) → (repairRefusal rows columns lines rowTable columnTable out marks ≡ 0 → ⊥)
-      → handsOver (repairRefusal rows columns lines rowTable columnTable out marks) ≡ false
-  unfolding repairRefusal handsOver
-  refusal-hands-nothing out marks d =
-      nothing _ d
-      (refusal-among (λ n. eqb n 0 || not (handsOver n))
+  pub change-refusals : (n : ℕ) (payload : List ℕ) → changeRefusal rows columns lines rowTable columnTable n payload ∈ changeAnswers
+  unfolding changeRefusal
+  change-refusals n payload =
+      refusal-in
+      ((sidesFit rows columns, 2)
+      ∷ (holds (rows * columns) lines, 5)
+      ∷ (tablesFit rows columns rowTable columnTable, 6)
+      ∷ (eqb (length payload) dataBytes, 7)
+      ∷ (ltb n (rows * columns), 8)
+      ∷ (parityCorrect (rowGroup columns rowTable (n / columns)), 13)
+      ∷ (parityCorrect (columnGroup rows columns columnTable (n % columns)), 14)
+      ∷ (acceptedAt lines n, 10)
+      ∷ [])
+
+  pub repair-refusals : (out marks : List ℕ)
+      → repairRefusal rows columns lines rowTable columnTable out marks ∈ repairRefusals
+  unfolding repairRefusal
+  repair-refusals out marks =
+      refusal-in
       ((sidesFit rows columns, 2)
       ∷ (holds (rows * columns) lines, 5)
       ∷ (tablesFit rows columns rowTable columnTable, 6)
       ∷ (holds (rows * columns) out && eqb (length marks) (rows * columns), 7)
       ∷ (every parityCorrect (rowGroups rows columns rowTable), 13)
       ∷ (every parityCorrect (columnGroups rows columns columnTable), 14)
-      ∷ []) refl refl)
+      ∷ [])
+
+  -- no refusal of repair hands over
+  pub refusal-hands-nothing : (out marks : List ℕ) → (repairRefusal rows columns lines rowTable columnTable out marks ≡ 0 → ⊥)
+      → handsOver (repairRefusal rows columns lines rowTable columnTable out marks) ≡ false
+  unfolding handsOver
+  refusal-hands-nothing out marks d =
+      go (repairRefusal rows columns lines rowTable columnTable out marks) d (repair-refusals out marks)
+    where
+      go : (n : ℕ) → (n ≡ 0 → ⊥) → n ∈ repairRefusals → handsOver n ≡ false
+      go n d (inl z) = absurd (d z)
+      go n d (inr i) = not-true _ (every-at (λ n. not (handsOver n)) (2 ∷ 5 ∷ 6 ∷ 7 ∷ 13 ∷ 14 ∷ []) refl n i)
 
   module _ (refusal : ℕ) (is : tablesRefusal rows columns lines rowTable columnTable ≡ refusal) where
     pub tables-run : refusal ≡ 0
@@ -108,3 +152,37 @@ module _ (rows columns : ℕ) (lines rowTable columnTable : List ℕ) where
         }
     unfolding repairStore
     repair-refused d = rw (is, ne-eqb refusal 0 d)
+
+  -- ---- what each entry point answers
+  pub tables-answers : makeTables rows columns lines rowTable columnTable .answer ∈ tablesAnswers
+  tables-answers = go (zero-or-not (tablesRefusal rows columns lines rowTable columnTable))
+    where
+      go : (tablesRefusal rows columns lines rowTable columnTable ≡ 0) ⊎ (tablesRefusal rows columns lines rowTable columnTable ≡ 0 → ⊥)
+          → makeTables rows columns lines rowTable columnTable .answer ∈ tablesAnswers
+      go (inl z) = rw (tables-run 0 z refl) (inl refl)
+      go (inr d) = rw (tables-refused _ refl d) tables-refusals
+
+  pub change-answers : (n : ℕ) (payload : List ℕ) → changeLine rows columns lines rowTable columnTable n payload .answer ∈ changeAnswers
+  change-answers n payload = go (zero-or-not (changeRefusal rows columns lines rowTable columnTable n payload))
+    where
+      go : (changeRefusal rows columns lines rowTable columnTable n payload ≡ 0)
+          ⊎ (changeRefusal rows columns lines rowTable columnTable n payload ≡ 0 → ⊥)
+          → changeLine rows columns lines rowTable columnTable n payload .answer ∈ changeAnswers
+      go (inl z) = rw (change-runs n payload 0 z refl) (inl refl)
+      go (inr d) = rw (change-refused n payload _ refl d) (change-refusals n payload)
+
+  pub repair-answers : (out marks : List ℕ) → repairStore rows columns lines rowTable columnTable out marks .answer ∈ repairAnswers
+  unfolding handedOver
+  repair-answers out marks = go (zero-or-not (repairRefusal rows columns lines rowTable columnTable out marks))
+    where
+      own : (n : ℕ) → n ∈ (0 ∷ 11 ∷ 12 ∷ []) → n ∈ repairAnswers
+      own n (inl z) = inl z
+      own n (inr i) = in-right repairRefusals (11 ∷ 12 ∷ []) n i
+
+      go : (repairRefusal rows columns lines rowTable columnTable out marks ≡ 0)
+          ⊎ (repairRefusal rows columns lines rowTable columnTable out marks ≡ 0 → ⊥)
+          → repairStore rows columns lines rowTable columnTable out marks .answer ∈ repairAnswers
+      go (inl z) = rw (repair-runs out marks 0 z refl) (own _ (answer-own _ _))
+      go (inr d) =
+          rw (repair-refused out marks _ refl d)
+          (in-left repairRefusals (11 ∷ 12 ∷ []) _ (repair-refusals out marks))

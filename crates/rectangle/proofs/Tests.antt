@@ -26,7 +26,7 @@ every-at test [] e a i = absurd i
 every-at test (b ∷ l) e a (inl p) = ap test p ∙ and-eq-true-iff (test b) (every test l) .0 e .0
 every-at test (b ∷ l) e a (inr i) = every-at test l (and-eq-true-iff (test b) (every test l) .0 e .1) a i
 
-pub every-map : {A B : Type 0} (test : B → Bool) (f : A → B) (l : List A) → every test (map f l) ≡ every (λ a. test (f a)) l
+every-map : {A B : Type 0} (test : B → Bool) (f : A → B) (l : List A) → every test (map f l) ≡ every (λ a. test (f a)) l
 every-map test f [] = refl
 every-map test f (a ∷ l) = ap (λ (b : Bool). test (f a) && b) (every-map test f l)
 
@@ -70,11 +70,27 @@ below-every test k e n h = ap test (sym (zero-add n)) ∙ from-every test 0 k e 
 pub fails-below : (test : ℕ → Bool) (k n : ℕ) → n < k → test n ≡ false → every test (upFrom 0 k) ≡ false
 fails-below test k n h e = fails-from test 0 k n h (ap test (zero-add n) ∙ e)
 
+-- and of what is numbered from 0
+module _ {A : Type 0} (test : A → Bool) (f : ℕ → A) (k : ℕ) where
+  pub every-image : ((n : ℕ) → n < k → test (f n) ≡ true) → every test (map f (upFrom 0 k)) ≡ true
+  every-image h = every-map test f (upFrom 0 k) ∙ every-below (λ n. test (f n)) k h
+
+  pub image-every : every test (map f (upFrom 0 k)) ≡ true → (n : ℕ) → n < k → test (f n) ≡ true
+  image-every e = below-every (λ n. test (f n)) k (sym (every-map test f (upFrom 0 k)) ∙ e)
+
+  pub image-fails : (n : ℕ) → n < k → test (f n) ≡ false → every test (map f (upFrom 0 k)) ≡ false
+  image-fails n h e = every-map test f (upFrom 0 k) ∙ fails-below (λ n. test (f n)) k n h e
+
 -- ---- a refusal
 -- an answer other than a test's refusal passed the test
 pub passed : {n : ℕ} (b : Bool) (refusal next : ℕ) → (refusal ≡ n → ⊥) → unless b refusal next ≡ n → (b ≡ true) × (next ≡ n)
 passed true refusal next d e = (refl, e)
 passed false refusal next d e = absurd (d e)
+
+-- and a test's refusal, which no later test gives, failed it
+pub failed : {n : ℕ} (b : Bool) (next : ℕ) → (next ≡ n → ⊥) → unless b n next ≡ n → b ≡ false
+failed true next d e = absurd (d e)
+failed false next d e = refl
 
 -- tests in their order, each with its refusal, and what is tested next: a definition's chain of `unless` computes to this
 abbrev pub refusals : List (Bool × ℕ) → ℕ → ℕ
@@ -103,17 +119,16 @@ refused-later (t ∷ ts) r next n e z =
     go true d f later = later f
     go false d f later = absurd (d (sym f ∙ z))
 
--- what holds of 0 and of each of their refusals holds of what they give
-pub refusal-among : (holds : ℕ → Bool) (ts : List (Bool × ℕ)) → holds 0 ≡ true → every (λ t. holds (t .1)) ts ≡ true
-    → holds (refusals ts 0) ≡ true
-refusal-among holds [] z e = z
-refusal-among holds (t ∷ ts) z e =
-    let each = and-eq-true-iff (holds (t .1)) _ .0 e in
-    go (t .0) (each .0) (refusal-among holds ts z (each .1))
+-- what they give is 0 or one of their refusals
+pub refusal-in : (ts : List (Bool × ℕ)) → refusals ts 0 ∈ (0 ∷ map (λ t. t .1) ts)
+refusal-in [] = inl refl
+refusal-in (t ∷ ts) = go (t .0) (refusal-in ts)
   where
-    go : (b : Bool) → holds (t .1) ≡ true → holds (refusals ts 0) ≡ true → holds (unless b (t .1) (refusals ts 0)) ≡ true
-    go true this later = later
-    go false this later = this
+    go : (b : Bool) → refusals ts 0 ∈ (0 ∷ map (λ t. t .1) ts)
+        → unless b (t .1) (refusals ts 0) ∈ (0 ∷ t .1 ∷ map (λ t. t .1) ts)
+    go true (inl e) = inl e
+    go true (inr i) = inr (inr i)
+    go false later = inr (inl refl)
 
 -- both tables have the lengths that refusal 6 asks for
 pub tables-lengths : (rows columns : ℕ) (rowTable columnTable : List ℕ) → tablesFit rows columns rowTable columnTable ≡ true

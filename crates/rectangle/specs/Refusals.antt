@@ -55,6 +55,10 @@ tablesRefusal rows columns lines rowTable columnTable =
     (unless (tablesFit rows columns rowTable columnTable) 6
     (unless (every (acceptedAt lines) (upFrom 0 (rows * columns))) 10 0)))
 
+-- and so what it may answer
+abbrev pub tablesAnswers : List ℕ
+tablesAnswers = 0 ∷ 2 ∷ 5 ∷ 6 ∷ 10 ∷ []
+
 -- changing line n: only its own row's parity line is tested for 13, its own column's for 14, and it alone for 10
 unfoldable pub changeRefusal : ℕ → ℕ → List ℕ → List ℕ → List ℕ → ℕ → List ℕ → ℕ
 changeRefusal rows columns lines rowTable columnTable n payload =
@@ -67,6 +71,9 @@ changeRefusal rows columns lines rowTable columnTable n payload =
     (unless (parityCorrect (columnGroup rows columns columnTable (n % columns))) 14
     (unless (acceptedAt lines n) 10 0)))))))
 
+abbrev pub changeAnswers : List ℕ
+changeAnswers = 0 ∷ 2 ∷ 5 ∷ 6 ∷ 7 ∷ 8 ∷ 13 ∷ 14 ∷ 10 ∷ []
+
 -- repair: out and marks are the line and mark buffers that it writes
 unfoldable pub repairRefusal : ℕ → ℕ → List ℕ → List ℕ → List ℕ → List ℕ → List ℕ → ℕ
 repairRefusal rows columns lines rowTable columnTable out marks =
@@ -76,6 +83,10 @@ repairRefusal rows columns lines rowTable columnTable out marks =
     (unless (holds (rows * columns) out && eqb (length marks) (rows * columns)) 7
     (unless (every parityCorrect (rowGroups rows columns rowTable)) 13
     (unless (every parityCorrect (columnGroups rows columns columnTable)) 14 0)))))
+
+-- 11 and 12 are answers of its steps
+abbrev pub repairAnswers : List ℕ
+repairAnswers = 0 ∷ 2 ∷ 5 ∷ 6 ∷ 7 ∷ 13 ∷ 14 ∷ 11 ∷ 12 ∷ []
 
 -- the number that comes with an answer: with 13 that of the bad row, with 14 that of the bad column, otherwise 0
 unfoldable pub numberWith : ℕ → ℕ → ℕ → ℕ

@@ -1,0 +1,63 @@
+-- Request Q-2, "Which table to reload": what 13, 14 and the number that comes with them tell of the tables, and that 9 is not given.
+use mathlib.Core.Path.{_≡_}
+use mathlib.Core.Bool.{true}
+use mathlib.Core.List.{List}
+use Prim.Native.Nat.{ℕ, _/_, _%_, _<_}
+use Rattle.scheme.specs.Layer.{parityAddress}
+use Rattle.scheme.specs.Demand3.{_∈_}
+use Rattle.rectangle.specs.Store.{lineLayer, placesAt, row, column}
+use Rattle.rectangle.specs.Refusals.{tablesAnswers, changeAnswers, repairAnswers}
+use Rattle.rectangle.specs.Change.{LineChanged}
+use Rattle.rectangle.specs.Repair.{StoreRepaired, handsOver}
+use Rattle.demands.specs.Demands.{Rectangle, tablesFor, changeIn, repairOf}
+
+-- ---- "13, a bad row parity line, and 14, a bad column parity line": those of row k and of column k are correct lines
+abbrev pub RowCorrect : Rectangle → ℕ → Type 0
+RowCorrect r k = lineLayer .Correct (parityAddress lineLayer (row (r .columns) k)) (placesAt (r .rowTable) k)
+
+abbrev pub ColumnCorrect : Rectangle → ℕ → Type 0
+ColumnCorrect r k = lineLayer .Correct (parityAddress lineLayer (column (r .rows) (r .columns) k)) (placesAt (r .columnTable) k)
+
+-- ---- "the number of the first bad row or column is returned with it": it is one of so many, it is bad, and those before it are correct
+pub record FirstBad (Good : ℕ → Type 0) (total number : ℕ) : Type 0 where
+  pub inside : number < total
+  pub bad : Good number → ⊥
+  pub before : (k : ℕ) → k < number → Good k
+
+-- what repair's answer and number tell: "rows tested first", "otherwise 0"
+pub record RepairNames (r : Rectangle) (given : StoreRepaired) : Type 0 where
+  pub row : given .answer ≡ 13 → FirstBad (RowCorrect r) (r .rows) (given .number)
+  pub column : given .answer ≡ 14 → FirstBad (ColumnCorrect r) (r .columns) (given .number)
+  pub rowsFirst : given .answer ≡ 14 → (k : ℕ) → k < r .rows → RowCorrect r k
+  pub otherwise : (given .answer ≡ 13 → ⊥) → (given .answer ≡ 14 → ⊥) → given .number ≡ 0
+  -- where lines and marks are handed over, no table needs to be reloaded
+  pub rowsCorrect : handsOver (given .answer) ≡ true → (k : ℕ) → k < r .rows → RowCorrect r k
+  pub columnsCorrect : handsOver (given .answer) ≡ true → (k : ℕ) → k < r .columns → ColumnCorrect r k
+
+abbrev pub RepairNamesFirstBad : Type 0
+RepairNamesFirstBad = (r : Rectangle) (out marks : List ℕ) → RepairNames r (repairOf r out marks)
+
+-- and a change's, of line n's own row and column
+pub record ChangeNames (r : Rectangle) (n : ℕ) (given : LineChanged) : Type 0 where
+  pub row : given .answer ≡ 13 → (given .number ≡ n / r .columns) × (RowCorrect r (given .number) → ⊥)
+  pub column : given .answer ≡ 14 → (given .number ≡ n % r .columns) × (ColumnCorrect r (given .number) → ⊥)
+  pub rowFirst : given .answer ≡ 14 → RowCorrect r (n / r .columns)
+  pub otherwise : (given .answer ≡ 13 → ⊥) → (given .answer ≡ 14 → ⊥) → given .number ≡ 0
+  -- where the line is changed, both of its parity lines were correct
+  pub rowCorrect : given .answer ≡ 0 → RowCorrect r (n / r .columns)
+  pub columnCorrect : given .answer ≡ 0 → ColumnCorrect r (n % r .columns)
+
+abbrev pub ChangeNamesOwn : Type 0
+ChangeNamesOwn = (r : Rectangle) (n : ℕ) (payload : List ℕ) → ChangeNames r n (changeIn r n payload)
+
+-- ---- "9 is no longer given.": each entry point gives its own answers only
+pub record AnswersGiven : Type 0 where
+  pub tables : (r : Rectangle) (oldRows oldColumns : List ℕ) → tablesFor r oldRows oldColumns .answer ∈ tablesAnswers
+  pub change : (r : Rectangle) (n : ℕ) (payload : List ℕ) → changeIn r n payload .answer ∈ changeAnswers
+  pub repair : (r : Rectangle) (out marks : List ℕ) → repairOf r out marks .answer ∈ repairAnswers
+
+-- and 9 is in none of the three lists
+pub record NineNotGiven : Type 0 where
+  pub tables : (r : Rectangle) (oldRows oldColumns : List ℕ) → tablesFor r oldRows oldColumns .answer ≡ 9 → ⊥
+  pub change : (r : Rectangle) (n : ℕ) (payload : List ℕ) → changeIn r n payload .answer ≡ 9 → ⊥
+  pub repair : (r : Rectangle) (out marks : List ℕ) → repairOf r out marks .answer ≡ 9 → ⊥
