@@ -1,2 +1,3 @@
 -- The C interface. Tables, change and repair cite the rectangle's own definitions; here stand those of one line.
 pub mod Single
+pub mod Promises

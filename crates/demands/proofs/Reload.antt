@@ -1,24 +1,23 @@
 -- Request Q-2: 13 and 14 name the first bad row or column, a number comes with no other answer, and 9 is not given.
 use mathlib.Core.Path.{_≡_, refl, sym, ap, _∙_}
 use mathlib.Core.Logic.{_⊎_, _↔_, inl, inr}
-use mathlib.Core.Bool.{Bool, true, false, not, _&&_, true≢false}
+use mathlib.Core.Bool.{Bool, true, false, _&&_, true≢false}
 use mathlib.Core.List.{List, map}
 use Prim.Native.Nat.{ℕ, _*_, _/_, _%_, _<_}
 use native.Mathlib.Omega.{arith}
-use borrow.Author.Tests.{eqb-false, ne-eqb, not-true}
+use borrow.Author.Tests.{ne-eqb}
 use lib.Dec.{eqb, ltb}
 use lib.ListN.{length}
 use Rattle.linecode.specs.Places.{dataBytes}
 use Rattle.linecode.specs.Code.{upFrom}
-use Rattle.scheme.specs.Demand3.{_∈_}
 use Rattle.rectangle.specs.Store.{rowGroup, columnGroup, rowGroups, columnGroups}
-use Rattle.rectangle.specs.Refusals.{unless, every, firstFailing, sidesFit, holds, tablesFit, parityCorrect, acceptedAt, tablesAnswers, changeRefusal, changeAnswers, repairRefusal, repairAnswers, numberWith}
-use Rattle.rectangle.specs.Change.{LineChanged}
+use Rattle.rectangle.specs.Refusals.{unless, every, firstFailing, holds, parityCorrect, acceptedAt, tablesAnswers, changeRefusal, changeAnswers, repairRefusal, repairAnswers, numberWith}
 use Rattle.rectangle.specs.Repair.{StoreRepaired, handsOver, handedOver, repairNumber}
 use Rattle.demands.specs.Demands.{Rectangle, count, tablesFor, changeIn, repairOf}
 use Rattle.demands.specs.Reload.{RowCorrect, ColumnCorrect, FirstBad, RepairNames, RepairNamesFirstBad, ChangeNames, ChangeNamesOwn, AnswersGiven, NineNotGiven}
 use Rattle.rectangle.proofs.LineLayer.{parity-tests}
-use Rattle.rectangle.proofs.Tests.{every-at, image-every, passed, failed}
+use Rattle.rectangle.proofs.Tests.{image-every, passed, failed, not-among}
+use Rattle.rectangle.proofs.Refusing.{sizes-past}
 use Rattle.rectangle.proofs.First.{first-of, all-pass, inside}
 use Rattle.rectangle.proofs.Runs.{zero-or-not, answer-hands-over, change-runs, change-refused, tables-answers, change-answers, repair-answers}
 use Rattle.demands.proofs.Refused.{refusal, runs, refused, not-refused}
@@ -80,9 +79,7 @@ module _ (r : Rectangle) where
     parity-decides : (a : ℕ) → ((k : ℕ) → k < 8 → 0 < k → k ≡ a → ⊥) → refusal r out marks ≡ a → tests rowsPass columnsPass 0 ≡ a
     unfolding refusal repairRefusal
     parity-decides a other e =
-        let two = passed (sidesFit (r .rows) (r .columns)) 2 _ (other 2 (omega arith) (omega arith)) e in
-        let five = passed (holds (count r) (r .lines)) 5 _ (other 5 (omega arith) (omega arith)) (two .1) in
-        let six = passed (tablesFit (r .rows) (r .columns) (r .rowTable) (r .columnTable)) 6 _ (other 6 (omega arith) (omega arith)) (five .1) in
+        let six = sizes-past (r .rows) (r .columns) (r .lines) (r .rowTable) (r .columnTable) a _ (λ k l h. other k (omega arith) (omega arith)) e in
         passed (holds (count r) out && eqb (length marks) (count r)) 7 _ (other 7 (omega arith) (omega arith)) (six .1) .1
 
     -- what is handed over comes with no number
@@ -160,9 +157,7 @@ module _ (r : Rectangle) where
     own-decide : (a : ℕ) → ((k : ℕ) → k < 9 → 0 < k → k ≡ a → ⊥) → turnedBack ≡ a → tests rowPasses columnPasses last ≡ a
     unfolding turnedBack changeRefusal
     own-decide a other e =
-        let two = passed (sidesFit (r .rows) (r .columns)) 2 _ (other 2 (omega arith) (omega arith)) e in
-        let five = passed (holds (count r) (r .lines)) 5 _ (other 5 (omega arith) (omega arith)) (two .1) in
-        let six = passed (tablesFit (r .rows) (r .columns) (r .rowTable) (r .columnTable)) 6 _ (other 6 (omega arith) (omega arith)) (five .1) in
+        let six = sizes-past (r .rows) (r .columns) (r .lines) (r .rowTable) (r .columnTable) a _ (λ k l h. other k (omega arith) (omega arith)) e in
         let seven = passed (eqb (length payload) dataBytes) 7 _ (other 7 (omega arith) (omega arith)) (six .1) in
         passed (ltb n (count r)) 8 _ (other 8 (omega arith) (omega arith)) (seven .1) .1
 
@@ -223,10 +218,7 @@ answersGiven =
 pub nineNotGiven : NineNotGiven
 nineNotGiven =
     record {
-      tables = λ r oldRows oldColumns. not-in tablesAnswers refl (answersGiven .tables r oldRows oldColumns);
-      change = λ r n payload. not-in changeAnswers refl (answersGiven .change r n payload);
-      repair = λ r out marks. not-in repairAnswers refl (answersGiven .repair r out marks);
+      tables = λ r oldRows oldColumns. not-among 9 tablesAnswers refl (answersGiven .tables r oldRows oldColumns);
+      change = λ r n payload. not-among 9 changeAnswers refl (answersGiven .change r n payload);
+      repair = λ r out marks. not-among 9 repairAnswers refl (answersGiven .repair r out marks);
     }
-  where
-    not-in : {a : ℕ} (answers : List ℕ) → every (λ b. not (eqb b 9)) answers ≡ true → a ∈ answers → a ≡ 9 → ⊥
-    not-in {a} answers e i = eqb-false a 9 (not-true _ (every-at (λ b. not (eqb b 9)) answers e a i))

@@ -1,7 +1,7 @@
 -- Tests and refusals: what a test that passes tells, and that a call whose tests all pass is not refused.
 use mathlib.Core.Path.{_≡_, sym, refl, ap, _∙_}
 use mathlib.Core.Logic.{inl, inr}
-use mathlib.Core.Bool.{Bool, true, false, not, _&&_, true≢false, and-eq-true-iff}
+use mathlib.Core.Bool.{Bool, true, false, not, cond, _&&_, true≢false, and-eq-true-iff}
 use mathlib.Core.List.{List, [], _∷_, map}
 use Prim.Native.Nat.{ℕ, _+_, _-_, _*_, _<_}
 use native.Mathlib.Nat.{zero-add}
@@ -129,6 +129,15 @@ refusal-in (t ∷ ts) = go (t .0) (refusal-in ts)
     go true (inl e) = inl e
     go true (inr i) = inr (inr i)
     go false later = inr (inl refl)
+
+-- an answer that is one of a list is not a number that the list lacks
+pub not-among : {a : ℕ} (n : ℕ) (answers : List ℕ) → every (λ b. not (eqb b n)) answers ≡ true → a ∈ answers → a ≡ n → ⊥
+not-among {a} n answers e i = eqb-false a n (not-true _ (every-at (λ b. not (eqb b n)) answers e a i))
+
+-- what holds of both results of a choice holds of the one that is given
+pub either-way : {A : Type 0} (P : A → Type 0) (b : Bool) (x y : A) → P x → P y → P (cond b x y)
+either-way P true x y p q = p
+either-way P false x y p q = q
 
 -- both tables have the lengths that refusal 6 asks for
 pub tables-lengths : (rows columns : ℕ) (rowTable columnTable : List ℕ) → tablesFit rows columns rowTable columnTable ≡ true

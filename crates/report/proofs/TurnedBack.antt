@@ -1,38 +1,55 @@
 -- Checks that are turned back write nothing and return zeros; those that are not count every line.
 use mathlib.Core.Path.{_≡_, refl, sym, _∙_, subst}
 use mathlib.Core.Logic.{_⊎_, inl, inr}
-use mathlib.Core.Bool.{Bool, true, false, true≢false}
-use mathlib.Core.List.{List}
+use mathlib.Core.Bool.{true, false, not, true≢false}
+use mathlib.Core.List.{List, [], _∷_}
 use Prim.Native.Nat.{ℕ, _*_, _≤_, _<_}
-use lib.Dec.{leb}
+use native.Mathlib.Omega.{arith}
+use borrow.Author.Tests.{not-true}
+use lib.Dec.{eqb, leb}
 use lib.ListN.{length, getD}
 use Rattle.scheme.specs.Layer.{readLine}
 use Rattle.scheme.specs.Repair.{repair, marksOf}
 use Rattle.scheme.specs.Marks.{LineMarks}
+use Rattle.scheme.specs.Demand3.{_∈_}
 use Rattle.scheme.proofs.Marking.{repair-marks}
 use Rattle.rectangle.specs.Store.{lineLayer, linesIn, groups}
-use Rattle.rectangle.specs.Refusals.{unless, sidesFit, repairRefusal}
+use Rattle.rectangle.specs.Refusals.{sidesFit, repairRefusal, repairAnswers}
 use Rattle.rectangle.specs.Repair.{StoreRepaired, repaired, handsOver, handedOver, repairStore}
 use Rattle.rectangle.proofs.Buffer.{length-linesIn}
 use Rattle.rectangle.proofs.LineLayer.{kept}
-use Rattle.rectangle.proofs.Runs.{zero-or-not, answer-hands-over, refusal-hands-nothing, repair-runs, repair-refused}
+use Rattle.rectangle.proofs.Runs.{zero-or-not, answer-hands-over, refusal-hands-nothing, repair-runs, repair-refused, repair-answers}
+use Rattle.rectangle.proofs.Tests.{every-at, refusal-in, not-among, either-way}
 use Rattle.storefile.specs.Header.{headerBytes}
 use Rattle.storefile.specs.Opening.{rowsIn, columnsIn, sidesWithin, contentsFit, openRefusal, opened}
 use Rattle.report.specs.Marks.{countsOf}
-use Rattle.report.specs.Check.{StoreChecked, refusedWith, repairOpened, checkStore}
-use Rattle.report.specs.Promises.{total, CheckCountsLines, CheckRefusalsWriteNothing}
+use Rattle.report.specs.Report.{ReportWritten, reportBytes, writeReport}
+use Rattle.report.specs.Check.{StoreChecked, refusedWith, repairOpened, counted, checkStore}
+use Rattle.report.specs.Promises.{total, CheckCountsLines, CheckRefusalsWriteNothing, NineNotGiven}
+use Rattle.storefile.specs.declared.opening.Opened.{Opened}
+use Rattle.report.specs.declared.report.Checked.{Checked}
 use Rattle.storefile.proofs.Openings.{Outcome, accepted, refused, outcome}
 use Rattle.report.proofs.Checking.{check-refused, check-turned-back, check-counted}
 use Rattle.report.proofs.Adding.{counts-add-up}
 
--- ---- which answers hand over
-opening-refuses : (a b c d : Bool) → let r = unless a 1 (unless b 2 (unless c 3 (unless d 4 0))) in (r ≡ 0 → ⊥) → handsOver r ≡ false
+-- ---- what opening answers
+abbrev openAnswers : List ℕ
+openAnswers = 0 ∷ 1 ∷ 2 ∷ 3 ∷ 4 ∷ []
+
+opening-answers : (limit : ℕ) (file : List ℕ) → openRefusal limit file ∈ openAnswers
+unfolding openRefusal
+opening-answers limit file =
+    refusal-in
+    ((leb headerBytes (length file), 1)
+    ∷ (sidesFit (rowsIn file) (columnsIn file), 2)
+    ∷ (sidesWithin limit (rowsIn file) (columnsIn file), 3)
+    ∷ (contentsFit file (rowsIn file) (columnsIn file), 4)
+    ∷ [])
+
+opening-refuses : (n : ℕ) → n ∈ openAnswers → (n ≡ 0 → ⊥) → handsOver n ≡ false
 unfolding handsOver
-opening-refuses false b c d n = refl
-opening-refuses true false c d n = refl
-opening-refuses true true false d n = refl
-opening-refuses true true true false n = refl
-opening-refuses true true true true n = absurd (n refl)
+opening-refuses n (inl z) d = absurd (d z)
+opening-refuses n (inr i) d = not-true _ (every-at (λ n. not (handsOver n)) (1 ∷ 2 ∷ 3 ∷ 4 ∷ []) refl n i)
 
 -- ---- repair hands over the marks of as many lines, or is refused and writes nothing
 data Repairing (k : ℕ) (out marks : List ℕ) (r : StoreRepaired) : Type 0 where
@@ -71,12 +88,6 @@ data Checks (out marks : List ℕ) (s : StoreChecked) : Type 0 where
       → Checks out marks s
 
 module _ (limit : ℕ) (file out marks : List ℕ) where
-  opening-turns : (openRefusal limit file ≡ 0 → ⊥) → handsOver (openRefusal limit file) ≡ false
-  unfolding openRefusal
-  opening-turns d =
-      opening-refuses (leb headerBytes (length file)) (sidesFit (rowsIn file) (columnsIn file))
-      (sidesWithin limit (rowsIn file) (columnsIn file)) (contentsFit file (rowsIn file) (columnsIn file)) d
-
   turned : (a : ℕ) (lines′ marks′ : List ℕ) → handsOver a ≡ false → lines′ ≡ out → marks′ ≡ marks
       → Checks out marks (record { checked = refusedWith a; lines = lines′; marks = marks′ })
   unfolding refusedWith
@@ -106,7 +117,7 @@ module _ (limit : ℕ) (file out marks : List ℕ) where
       go (refused d e) =
           subst (Checks out marks)
           (check-refused limit file out marks _ (sym e) d (refusedWith (openRefusal limit file)) refl)
-          (turned (openRefusal limit file) out marks (opening-turns d) refl refl)
+          (turned (openRefusal limit file) out marks (opening-refuses _ (opening-answers limit file) d) refl refl)
 
 pub check-counts-lines : CheckCountsLines
 check-counts-lines limit file out marks h = go (checks limit file out marks)
@@ -125,3 +136,27 @@ check-refusals-write-nothing limit file out marks h = go (checks limit file out 
         × (checkStore limit file out marks .lines ≡ out) × (checkStore limit file out marks .marks ≡ marks)
     go (over i e) = absurd (true≢false (sym i ∙ h))
     go (none i e f g) = (e, f, g)
+
+-- ---- request Q-2
+pub nine-not-given : NineNotGiven
+unfolding opened checkStore counted refusedWith repairOpened writeReport
+nine-not-given =
+    record {
+      opening = opening;
+      check = λ limit file out marks.
+          either-way (λ (s : StoreChecked). s .checked .answer ≡ 9 → ⊥) (eqb (opened limit file .answer) 0) _ _
+          (either-way (λ (c : Checked). c .answer ≡ 9 → ⊥) (handsOver _) _ _ (repair-not _ _ _ _ _ out marks) (repair-not _ _ _ _ _ out marks))
+          (opening limit file);
+      report = λ c out. either-way (λ (w : ReportWritten). w .answer ≡ 9 → ⊥) (eqb (length out) reportBytes) _ _
+          (λ (e : _≡_ {A = ℕ} 0 9). omega arith) (λ (e : _≡_ {A = ℕ} 7 9). omega arith);
+    }
+  where
+    opening : (limit : ℕ) (file : List ℕ) → opened limit file .answer ≡ 9 → ⊥
+    opening limit file =
+        either-way (λ (o : Opened). o .answer ≡ 9 → ⊥) (eqb (openRefusal limit file) 0) _ _ (λ (e : _≡_ {A = ℕ} 0 9). omega arith)
+        (not-among 9 openAnswers refl (opening-answers limit file))
+
+    repair-not : (rows columns : ℕ) (lines rowTable columnTable out marks : List ℕ)
+        → repairStore rows columns lines rowTable columnTable out marks .answer ≡ 9 → ⊥
+    repair-not rows columns lines rowTable columnTable out marks =
+        not-among 9 repairAnswers refl (repair-answers rows columns lines rowTable columnTable out marks)

@@ -6,11 +6,12 @@ use Prim.Native.Nat.{ℕ, _+_, _-_, _*_, _≤_, _<_}
 use lib.ListN.{length, take, getD}
 use Rattle.rectangle.specs.Repair.{handsOver}
 use Rattle.storefile.specs.Header.{headerBytes}
-use Rattle.storefile.specs.Opening.{bytesNeeded}
+use Rattle.storefile.specs.Opening.{opened, bytesNeeded}
 use Rattle.report.specs.Marks.{countsOf}
-use Rattle.report.specs.Report.{decimal}
+use Rattle.report.specs.Report.{decimal, writeReport}
 use Rattle.report.specs.Check.{refusedWith, checkStore}
 use Rattle.report.specs.declared.marks.Counts.{Counts}
+use Rattle.report.specs.declared.report.Checked.{Checked}
 
 -- ---- a reader that stops after the bytes it needs gives the same answer: those that follow change nothing
 abbrev pub MoreChangesNothing : Type 0
@@ -32,13 +33,20 @@ CheckCountsLines =
     → let checked = checkStore limit file out marks .checked in
     handsOver (checked .answer) ≡ true → total (checked .counts) ≡ checked .rows * checked .columns
 
--- ---- "Passes are 0 for answers 1 to 10, which write nothing; a value that a call would return is 0"
+-- ---- "Passes are 0 for answers 1 to 10, which write nothing; a value that a call would return is 0", and so for every number added
+-- later: any answer but 0, 11 and 12
 abbrev pub CheckRefusalsWriteNothing : Type 0
 CheckRefusalsWriteNothing =
     (limit : ℕ) (file out marks : List ℕ)
     → let r = checkStore limit file out marks in
     handsOver (r .checked .answer) ≡ false
     → (r .checked ≡ refusedWith (r .checked .answer)) × (r .lines ≡ out) × (r .marks ≡ marks)
+
+-- ---- request Q-2: "9 is no longer given.", neither by opening a file, nor by a check, nor by writing the report
+pub record NineNotGiven : Type 0 where
+  pub opening : (limit : ℕ) (file : List ℕ) → opened limit file .answer ≡ 9 → ⊥
+  pub check : (limit : ℕ) (file out marks : List ℕ) → checkStore limit file out marks .checked .answer ≡ 9 → ⊥
+  pub report : (c : Checked) (out : List ℕ) → writeReport c out .answer ≡ 9 → ⊥
 
 -- ---- "decimal without leading zeros": digits from 48 to 57, which read back give the number; only 0 begins with 48, and it is short
 abbrev pub readDecimal : ℕ → List ℕ → ℕ
