@@ -110,15 +110,7 @@ pub extern "C" fn sudoku_change_line(
         (changeLine rows columns (now (lines .entry)) (now («row_table» .entry)) (now («column_table» .entry)) n
         (now (payload .entry))) ⌝ }
 {
-    let changed = change::change_line(
-        rows,
-        columns,
-        lines,
-        row_table,
-        column_table,
-        n,
-        payload,
-    );
+    let changed = change::change_line(rows, columns, lines, row_table, column_table, n, payload);
     *number = changed.number as u64;
     changed.answer
 }

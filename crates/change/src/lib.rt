@@ -36,21 +36,18 @@ fn alone_at(buffer: &[u8], n: usize) -> Reading
 }
 
 // 13 where a row's parity line isn't a correct line, then 14 where a column's isn't, spare bits apart, or 0: in a rectangle of any sides.
-fn parity_refusal(
-    row_table: &[u8],
-    row: RowIndex,
-    column_table: &[u8],
-    column: ColumnIndex,
-) -> u32
+fn parity_refusal(row_table: &[u8], row: RowIndex, column_table: &[u8], column: ColumnIndex) -> u32
     requires { ⌜ (suc (row .0) * 70 ≤ length (now «row_table»)) × (suc (column .0) * 70 ≤ length (now «column_table»)) ⌝ }
     ensures { λ r. ⌜ ((rows columns : ℕ) → r
         ≡ unless (parityCorrect (rowGroup columns (now («row_table» .entry)) (row .0))) 13
         (unless (parityCorrect (columnGroup rows columns (now («column_table» .entry)) (column .0))) 14 0)) ⌝ }
 {
-    if !alone::is_correct(row_parity(row_table, row)) {
+    let of_row = alone::is_correct(row_parity(row_table, row));
+    let of_column = alone::is_correct(column_parity(column_table, column));
+    if !of_row {
         return 13;
     }
-    if !alone::is_correct(column_parity(column_table, column)) {
+    if !of_column {
         return 14;
     }
     0
@@ -88,10 +85,10 @@ fn refusal(
     }
     let row = row_of(columns, n);
     let bad = parity_refusal(row_table, row, column_table, column_of(columns, n));
+    let read = alone_at(lines, n);
     if bad != 0 {
         return bad;
     }
-    let read = alone_at(lines, n);
     if read.mark == 4 {
         return 10;
     }
@@ -135,10 +132,8 @@ pub fn change_line(
 {
     let answer = refusal(rows, columns, lines, row_table, column_table, n, payload);
     if answer != 0 {
-        return Changed {
-            answer,
-            number: number_with(answer, columns, n),
-        };
+        let number = number_with(answer, columns, n);
+        return Changed { answer, number };
     }
     let read = alone_at(lines, n);
     let old = read.line;

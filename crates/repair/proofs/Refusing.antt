@@ -17,16 +17,33 @@ use Rattle.rectangle.proofs.First.{all-pass, one-fails}
 use Rattle.rectangle.proofs.Tests.{passed}
 use Rattle.groups.specs.Lent.{Rectangular}
 
--- ---- the refusals
-module _ (rows columns : ℕ) (lines rt ct out marks : List ℕ) where
-  -- the tests of the parity lines, and those after the sizes
+-- ---- the tests of the parity lines
+module _ (rows columns : ℕ) (rt ct : List ℕ) where
   abbrev parityTests : ℕ
   parityTests =
       unless (every parityCorrect (rowGroups rows columns rt)) 13
       (unless (every parityCorrect (columnGroups rows columns ct)) 14 0)
 
+  -- the first bad row and the first bad column decide
+  module _ (r : ℕ) (e : r ≡ firstFailing parityCorrect (rowGroups rows columns rt)) where
+    pub row-refused : (r ≡ rows → ⊥) → 13 ≡ parityTests
+    row-refused d = rw (one-fails parityCorrect (rowGroup columns rt) rows (λ f. d (e ∙ f)))
+
+    module _ (all : r ≡ rows) (c : ℕ) (f : c ≡ firstFailing parityCorrect (columnGroups rows columns ct)) where
+      rows-pass : every parityCorrect (rowGroups rows columns rt) ≡ true
+      rows-pass = all-pass parityCorrect (rowGroup columns rt) rows (sym e ∙ all)
+
+      pub column-refused : (c ≡ columns → ⊥) → 14 ≡ parityTests
+      column-refused d = rw (rows-pass, one-fails parityCorrect (columnGroup rows columns ct) columns (λ g. d (f ∙ g)))
+
+      pub none-refused : c ≡ columns → 0 ≡ parityTests
+      none-refused g = rw (rows-pass, all-pass parityCorrect (columnGroup rows columns ct) columns (sym f ∙ g))
+
+-- ---- the refusals
+module _ (rows columns : ℕ) (lines rt ct out marks : List ℕ) where
+  -- the tests after the sizes
   abbrev repairTests : ℕ
-  repairTests = unless (holds (rows * columns) out && eqb (length marks) (rows * columns)) 7 parityTests
+  repairTests = unless (holds (rows * columns) out && eqb (length marks) (rows * columns)) 7 (parityTests rows columns rt ct)
 
   pub refused-sizes : (r : ℕ) → r ≡ sizeTests rows columns lines rt ct → (r ≡ 0 → ⊥) → r ≡ repairRefusal rows columns lines rt ct out marks
   unfolding repairRefusal
@@ -41,43 +58,28 @@ module _ (rows columns : ℕ) (lines rt ct out marks : List ℕ) where
     unfolding holds lineBytes
     refused-out d =
         sym (then-tests p
-        ∙ ap (λ (b : Bool). unless (b && eqb (length marks) (rows * columns)) 7 parityTests)
+        ∙ ap (λ (b : Bool). unless (b && eqb (length marks) (rows * columns)) 7 (parityTests rows columns rt ct))
         (ne-eqb (length out) (rows * columns * 70) d))
 
     module _ (o : length out ≡ rows * columns * 70) where
       marks-next : repairRefusal rows columns lines rt ct out marks
-          ≡ unless (eqb (length marks) (rows * columns)) 7 parityTests
+          ≡ unless (eqb (length marks) (rows * columns)) 7 (parityTests rows columns rt ct)
       unfolding holds lineBytes
       marks-next =
           then-tests p
-          ∙ ap (λ (b : Bool). unless (b && eqb (length marks) (rows * columns)) 7 parityTests)
+          ∙ ap (λ (b : Bool). unless (b && eqb (length marks) (rows * columns)) 7 (parityTests rows columns rt ct))
           (eq-eqb (length out) (rows * columns * 70) o)
 
       pub refused-marks : (length marks ≡ rows * columns → ⊥) → 7 ≡ repairRefusal rows columns lines rt ct out marks
       refused-marks d =
           sym (marks-next
-          ∙ ap (λ (b : Bool). unless b 7 parityTests)
+          ∙ ap (λ (b : Bool). unless b 7 (parityTests rows columns rt ct))
           (ne-eqb (length marks) (rows * columns) d))
 
-      -- the first bad row and the first bad column decide
-      module _ (m : length marks ≡ rows * columns) (r : ℕ) (e : r ≡ firstFailing parityCorrect (rowGroups rows columns rt)) where
-        parity-next : repairRefusal rows columns lines rt ct out marks ≡ parityTests
-        parity-next = marks-next ∙ ap (λ (b : Bool). unless b 7 parityTests) (eq-eqb (length marks) (rows * columns) m)
-
-        pub refused-row : (r ≡ rows → ⊥) → 13 ≡ repairRefusal rows columns lines rt ct out marks
-        refused-row d = sym (parity-next ∙ rw (one-fails parityCorrect (rowGroup columns rt) rows (λ f. d (e ∙ f))))
-
-        module _ (all : r ≡ rows) (c : ℕ) (f : c ≡ firstFailing parityCorrect (columnGroups rows columns ct)) where
-          rows-pass : every parityCorrect (rowGroups rows columns rt) ≡ true
-          rows-pass = all-pass parityCorrect (rowGroup columns rt) rows (sym e ∙ all)
-
-          pub refused-column : (c ≡ columns → ⊥) → 14 ≡ repairRefusal rows columns lines rt ct out marks
-          refused-column d =
-              sym (parity-next ∙ rw (rows-pass, one-fails parityCorrect (columnGroup rows columns ct) columns (λ g. d (f ∙ g))))
-
-          pub refused-nothing : c ≡ columns → 0 ≡ repairRefusal rows columns lines rt ct out marks
-          refused-nothing g =
-              sym (parity-next ∙ rw (rows-pass, all-pass parityCorrect (columnGroup rows columns ct) columns (sym f ∙ g)))
+      -- the parity lines decide
+      pub parity-decides : length marks ≡ rows * columns → (r : ℕ) → r ≡ parityTests rows columns rt ct → r ≡ repairRefusal rows columns lines rt ct out marks
+      parity-decides m r e =
+          e ∙ sym (marks-next ∙ ap (λ (b : Bool). unless b 7 (parityTests rows columns rt ct)) (eq-eqb (length marks) (rows * columns) m))
 
   -- 13 and 14 come past the sizes
   pub numbered-tables : (a : ℕ) → a ≡ repairRefusal rows columns lines rt ct out marks → 6 < a → SizesPass rows columns lines rt ct

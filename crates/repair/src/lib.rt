@@ -55,13 +55,7 @@ fn refusal(
     if marks.len() != rows * columns {
         return 7;
     }
-    if parity::first_bad_row(table, rows, row_table) != rows {
-        return 13;
-    }
-    if parity::first_bad_column(table, columns, column_table) != columns {
-        return 14;
-    }
-    0
+    parity::refusal(table, rows, columns, row_table, column_table)
 }
 
 // The answer after the last pass: 11 where faulty lines are left, 12 where some group's difference is not 0.
@@ -120,18 +114,12 @@ pub fn repair(
     marks: &mut [u8],
 ) -> Repaired
     ensures { λ r. ⌜ _≡_ {A = StoreRepaired}
-        (record {
-          answer = r .answer;
-          number = r .number;
-          passes = r .passes;
-          lines = now (out .exit);
-          marks = now (marks .exit);
-        })
+        (record { answer = r .answer; number = r .number; passes = r .passes; lines = now (out .exit); marks = now (marks .exit) })
         (repairStore rows columns (now (lines .entry)) (now («row_table» .entry)) (now («column_table» .entry))
         (now (out .entry)) (now (marks .entry))) ⌝ }
 {
     let table = line_table::lent();
-    let turned_back = refusal(
+    let answer = refusal(
         &table,
         rows,
         columns,
@@ -141,18 +129,12 @@ pub fn repair(
         out,
         marks,
     );
-    if turned_back != 0 {
+    if answer != 0 {
+        let number = parity::number_with(answer, &table, rows, columns, row_table, column_table);
         return Repaired {
-            answer: turned_back,
+            answer,
             passes: 0,
-            number: parity::number_with(
-                turned_back,
-                &table,
-                rows,
-                columns,
-                row_table,
-                column_table,
-            ),
+            number,
         };
     }
     let mut lacks = [0u8; 71680];

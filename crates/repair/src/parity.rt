@@ -5,7 +5,7 @@ ghost use Prim.Native.Nat.{ℕ, _+_, _*_, _≤_, _<_};
 ghost use lib.ListN.{length};
 ghost use Rattle.linecode.specs.Places.{lineOf};
 ghost use Rattle.rectangle.specs.Store.{placesAt, bytesAt, rowGroups, columnGroups};
-ghost use Rattle.rectangle.specs.Refusals.{firstFailing, parityCorrect};
+ghost use Rattle.rectangle.specs.Refusals.{unless, every, firstFailing, parityCorrect};
 ghost use Rattle.rectangle.specs.Repair.{repairNumber};
 ghost use Rattle.line_table.specs.Table.{lineTable};
 use groups::tracked;
@@ -44,6 +44,31 @@ pub fn first_bad_column(table: &[u64; 4096], columns: usize, column_table: &[u8]
         c += 1;
     }
     c
+}
+
+// 13 where some row's parity line isn't a correct line, then 14 where some column's isn't, or 0.
+pub fn refusal(
+    table: &[u64; 4096],
+    rows: usize,
+    columns: usize,
+    row_table: &[u8],
+    column_table: &[u8],
+) -> u32
+    requires table { ⌜ now table ≡ lineTable ⌝ }
+    requires whole { ⌜ (length (now «row_table») ≡ rows * 70) × (length (now «column_table») ≡ columns * 70) ⌝ }
+    ensures { λ r. ⌜ r
+        ≡ unless (every parityCorrect (rowGroups rows columns (now («row_table» .entry)))) 13
+        (unless (every parityCorrect (columnGroups rows columns (now («column_table» .entry)))) 14 0) ⌝ }
+{
+    let row = first_bad_row(table, rows, row_table);
+    let column = first_bad_column(table, columns, column_table);
+    if row != rows {
+        return 13;
+    }
+    if column != columns {
+        return 14;
+    }
+    0
 }
 
 // The number that comes with an answer: the first bad row with 13, the first bad column with 14, otherwise 0. Only a refusal asks for it.

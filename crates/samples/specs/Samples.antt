@@ -11,6 +11,7 @@ use Rattle.linecode.specs.Code.{syndrome, answerTo, placeOf}
 use Rattle.linecode.specs.Reading.{readAlone}
 use Rattle.linecode.specs.Before.{readBefore}
 use Rattle.linecode.specs.Entry.{written}
+use Rattle.rectangle.specs.Change.{LineChanged, changeLine}
 use Rattle.rectangle.specs.Repair.{StoreRepaired, repairStore}
 
 -- a row of the table
@@ -27,6 +28,10 @@ pub data Sample : Type 0 where
   mends : ℕ → List (List ℕ) → List ℕ → ℕ → Sample
   -- these are handed over as found with these marks, passes and this answer
   leaves : ℕ → List (List ℕ) → List ℕ → ℕ → ℕ → Sample
+  -- four zero lines, two by two, with these parity lines of the rows and of the columns: repair writes nothing, and answers so with this
+  -- number; and a change of line n answers so with this number
+  turnsBack : List (List ℕ) → List (List ℕ) → ℕ → ℕ → Sample
+  changes : List (List ℕ) → List (List ℕ) → ℕ → ℕ → ℕ → Sample
 
 -- a line hurt at some places
 abbrev pub hurtAt : List ℕ → Word → Word
@@ -63,13 +68,22 @@ samples =
     ∷ []
 
 -- cases without a star: the marks of before, and one at which a plausible and false way of repair would give other marks. The mismatch is worked out once in a visit:
--- of {1, 3, 4} line 0 takes place 1; worked out again it would be {0, 3, 4}, and line 1 would be mended by trial too
+-- of {1, 3, 4} line 0 takes place 1; worked out again it would be {0, 3, 4}, and line 1 would be mended by trial too. Then request Q-2's:
+-- the first bad row, rows before columns, a change's own row and column, and no other
 abbrev pub cases : List Sample
 cases =
     wasMarked (0 ∷ []) 1
     ∷ wasMarked (542 ∷ []) 1
     ∷ wasMarked (543 ∷ []) 0
-    ∷ mends 3 (hurt (0 ∷ 1 ∷ []) ∷ hurt (0 ∷ 2 ∷ []) ∷ hurt (2 ∷ 3 ∷ 4 ∷ []) ∷ clean ∷ clean ∷ clean ∷ []) (2 ∷ 3 ∷ 3 ∷ 0 ∷ 0 ∷ 0 ∷ []) 1 ∷ []
+    ∷ mends 3 (hurt (0 ∷ 1 ∷ []) ∷ hurt (0 ∷ 2 ∷ []) ∷ hurt (2 ∷ 3 ∷ 4 ∷ []) ∷ clean ∷ clean ∷ clean ∷ []) (2 ∷ 3 ∷ 3 ∷ 0 ∷ 0 ∷ 0 ∷ []) 1
+    ∷ turnsBack (clean ∷ hurt (0 ∷ []) ∷ []) (clean ∷ clean ∷ []) 13 1
+    ∷ turnsBack (hurt (0 ∷ []) ∷ hurt (0 ∷ []) ∷ []) (clean ∷ clean ∷ []) 13 0
+    ∷ turnsBack (clean ∷ hurt (0 ∷ []) ∷ []) (hurt (0 ∷ []) ∷ clean ∷ []) 13 1
+    ∷ turnsBack (clean ∷ clean ∷ []) (clean ∷ hurt (0 ∷ []) ∷ []) 14 1
+    ∷ changes (clean ∷ hurt (0 ∷ []) ∷ []) (hurt (0 ∷ []) ∷ clean ∷ []) 2 13 1
+    ∷ changes (hurt (0 ∷ []) ∷ clean ∷ []) (clean ∷ hurt (0 ∷ []) ∷ []) 3 14 1
+    ∷ changes (hurt (0 ∷ []) ∷ clean ∷ []) (clean ∷ hurt (0 ∷ []) ∷ []) 2 0 0
+    ∷ []
 
 abbrev pub sameBytes : List ℕ → List ℕ → Bool
 sameBytes [] [] = true
@@ -77,10 +91,10 @@ sameBytes [] (b ∷ y) = false
 sameBytes (a ∷ x) [] = false
 sameBytes (a ∷ x) (b ∷ y) = eqb a b && sameBytes x y
 
--- repair gives these lines, marks, passes and answer
-abbrev pub gives : StoreRepaired → List ℕ → List ℕ → ℕ → ℕ → Bool
-gives r lines marks passes answer =
-    sameBytes (r .lines) lines && sameBytes (r .marks) marks && eqb (r .passes) passes && eqb (r .answer) answer
+-- repair gives these lines, marks, passes, answer and number
+abbrev pub gives : StoreRepaired → List ℕ → List ℕ → ℕ → ℕ → ℕ → Bool
+gives r lines marks passes answer number =
+    sameBytes (r .lines) lines && sameBytes (r .marks) marks && eqb (r .passes) passes && eqb (r .answer) answer && eqb (r .number) number
 
 abbrev pub joined : List (List ℕ) → List ℕ
 joined [] = []
@@ -92,6 +106,14 @@ repairedStore columns found =
     repairStore 2 columns (joined found) (replicate 140 0) (replicate (columns * 70) 0) (replicate (columns * 140) 0)
     (replicate (columns * 2) 0)
 
+-- zero lines, two by two, with these tables, repaired into buffers of sevens; and line n of them changed
+unfoldable pub repairedWith : List (List ℕ) → List (List ℕ) → StoreRepaired
+repairedWith rowTable columnTable =
+    repairStore 2 2 (replicate 280 0) (joined rowTable) (joined columnTable) (replicate 280 7) (replicate 4 7)
+
+unfoldable pub changedWith : List (List ℕ) → List (List ℕ) → ℕ → LineChanged
+changedWith rowTable columnTable n = changeLine 2 2 (replicate 280 0) (joined rowTable) (joined columnTable) n (replicate 64 1)
+
 -- what a row claims
 abbrev pub holds : Sample → Bool
 holds (writes payload line) = sameBytes (written payload) line
@@ -102,8 +124,12 @@ holds (refuses hurt number place) =
     let line = hurtAt hurt (zeros 553) in
     let read = readAlone line in
     eqb (syndrome line) number && eqb (placeOf (answerTo number)) place && same (read .word) line && eqb (read .mark) 4
-holds (mends columns found marks passes) = gives (repairedStore columns found) (replicate (columns * 140) 0) marks passes 0
-holds (leaves columns found marks passes answer) = gives (repairedStore columns found) (joined found) marks passes answer
+holds (mends columns found marks passes) = gives (repairedStore columns found) (replicate (columns * 140) 0) marks passes 0 0
+holds (leaves columns found marks passes answer) = gives (repairedStore columns found) (joined found) marks passes answer 0
+holds (turnsBack rowTable columnTable answer number) =
+    gives (repairedWith rowTable columnTable) (replicate 280 7) (replicate 4 7) 0 answer number
+holds (changes rowTable columnTable n answer number) =
+    let changed = changedWith rowTable columnTable n in eqb (changed .answer) answer && eqb (changed .number) number
 
 abbrev pub all : List Sample → Bool
 all [] = true

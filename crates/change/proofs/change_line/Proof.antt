@@ -20,7 +20,7 @@ number-with-requires : tie.Need-number-with-requires
 number-with-requires c κs =
     let a = c .before .before .before .before .before .before .before .before .before .args in
     let some = numbered-columns (a .rows) (a .columns) (a .lines .now) (a .row-table .now) (a .column-table .now) (a .n) (a .payload .now) _
-        (c .before .refusal .ensures) in
+    (c .before .refusal .ensures) in
     (λ e. some (omega arith), λ e. some (omega arith))
 
 same-length : tie.Need-same-length

@@ -80,32 +80,32 @@ tested c =
     ∙ ap₂ (λ (i j : ℕ). parityThen (a .rows) (a .columns) (a .row-table .now) (a .column-table .now) i j 0)
     (c .before .before .row-of .ensures) (c .before .column-of .ensures)
 
-returns-4 : tie.Need-returns-4
-returns-4 c = sym (sym (left (c .before .before .before .before)) ∙ parity-refused _ _ _ _ _ _ _ _ (tested (c .before)) (c .if4 .taken))
-
 alone-at-requires : tie.Need-alone-at-requires
-alone-at-requires c κs = line-room _ _ _ _ _ (fit (c .before .before .before .before .before .before)) _ (c .before .before .before .before .if3 .left)
+alone-at-requires c κs = line-room _ _ _ _ _ (fit (c .before .before .before .before .before)) _ (c .before .before .before .if3 .left)
+
+returns-4 : tie.Need-returns-4
+returns-4 c = sym (sym (left (c .before .before .before .before .before)) ∙ parity-refused _ _ _ _ _ _ _ _ (tested (c .before .before)) (c .if4 .taken))
 
 -- past refusals 13 and 14 the definition tests the line
 last : (c : tie.Else4)
-    → let a = c .before .before .before .before .before .before .before .before .before .before .before .before .args in
+    → let a = c .before .before .before .before .before .before .before .before .before .before .before .before .before .args in
     unless (acceptedAt (a .lines .now) (a .n)) 10 0
     ≡ changeRefusal (a .rows) (a .columns) (a .lines .now) (a .row-table .now) (a .column-table .now) (a .n) (a .payload .now)
-last c = sym (parity-passed _ _ _ _ _ _ _ _ (tested (c .before)) (c .if4 .left)) ∙ left (c .before .before .before .before)
+last c = sym (parity-passed _ _ _ _ _ _ _ _ (tested (c .before .before)) (c .if4 .left)) ∙ left (c .before .before .before .before .before)
 
 returns-5 : tie.Need-returns-5
 returns-5 c =
-    let read = c .before .before .alone-at in
+    let read = c .before .before .before .alone-at in
     let a = c .before .before .before .before .before .before .before .before .before .before .before .before .before .before .before .args in
     let mark = ap (λ (r : Reading). r .mark) (read .ensures) in
-    rw (← last (c .before .before .before), faulty-alone (a .lines .now) (a .n) (read .result .mark) mark (c .if5 .taken))
+    rw (← last (c .before .before), faulty-alone (a .lines .now) (a .n) (read .result .mark) mark (c .if5 .taken))
 
 returns-6 : tie.Need-returns-6
 returns-6 c =
-    let read = c .before .before .alone-at in
+    let read = c .before .before .before .alone-at in
     let a = c .before .before .before .before .before .before .before .before .before .before .before .before .before .before .before .args in
     let mark = ap (λ (r : Reading). r .mark) (read .ensures) in
-    rw (← last (c .before .before .before), accepted-alone (a .lines .now) (a .n) (read .result .mark) mark (c .if5 .left))
+    rw (← last (c .before .before), accepted-alone (a .lines .now) (a .n) (read .result .mark) mark (c .if5 .left))
 
 pub refusal-spec : {M : Type 1} → statement M
 refusal-spec =
@@ -119,7 +119,7 @@ refusal-spec =
     row-of-requires
     column-of-requires
     parity-refusal-requires
-    returns-4
     alone-at-requires
+    returns-4
     returns-5
     returns-6)

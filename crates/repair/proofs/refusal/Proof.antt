@@ -2,7 +2,7 @@
 use native.Mathlib.Omega.{arith}
 use borrow.Author.Needs.{needs}
 use Rattle.rectangle.proofs.Refusing.{SizesPass, sizes-passed}
-use Rattle.repair.proofs.Refusing.{refused-sizes, refused-out, refused-marks, refused-row, refused-column, refused-nothing, few}
+use Rattle.repair.proofs.Refusing.{refused-sizes, refused-out, refused-marks, parity-decides, few}
 use Rattle.repair.proofs.refusal.Statement.{statement}
 use Rattle.repair.proofs.refusal.Tie as tie
 
@@ -36,31 +36,16 @@ returns-3 : tie.Need-returns-3
 returns-3 c =
     refused-marks _ _ _ _ _ _ _ (sizes (c .before .before)) (c .before .if2 .left) (λ e. omega (arith, c .if3 .taken))
 
-first-bad-row-requires : tie.Need-first-bad-row-requires
-first-bad-row-requires c κs = (c .before .before .before .before .before .before .before .before .before .pre, sizes (c .before .before) .rowBytes)
+refusal-requires-2 : tie.Need-refusal-requires-2
+refusal-requires-2 c κs =
+    let p = sizes (c .before .before) in
+    (c .before .before .before .before .before .before .before .before .before .pre, (p .rowBytes, p .columnBytes))
 
 returns-4 : tie.Need-returns-4
 returns-4 c =
-    let lengths = c .before .before in
-    refused-row _ _ _ _ _ _ _ (sizes (lengths .before .before)) (lengths .before .if2 .left) (lengths .if3 .left) _
-    (c .before .first-bad-row .ensures _) (c .if4 .taken)
-
-first-bad-column-requires : tie.Need-first-bad-column-requires
-first-bad-column-requires c κs = (c .before .before .before .before .before .before .before .before .before .before .before .pre, sizes (c .before .before .before .before) .columnBytes)
-
-returns-5 : tie.Need-returns-5
-returns-5 c =
-    let rows = c .before .before in
-    let lengths = rows .before .before in
-    refused-column _ _ _ _ _ _ _ (sizes (lengths .before .before)) (lengths .before .if2 .left) (lengths .if3 .left) _
-    (rows .before .first-bad-row .ensures _) (rows .if4 .left) _ (c .before .first-bad-column .ensures _) (c .if5 .taken)
-
-returns-6 : tie.Need-returns-6
-returns-6 c =
-    let rows = c .before .before in
-    let lengths = rows .before .before in
-    refused-nothing _ _ _ _ _ _ _ (sizes (lengths .before .before)) (lengths .before .if2 .left) (lengths .if3 .left) _
-    (rows .before .first-bad-row .ensures _) (rows .if4 .left) _ (c .before .first-bad-column .ensures _) (c .if5 .left)
+    let lengths = c .before in
+    parity-decides _ _ _ _ _ _ _ (sizes (lengths .before .before)) (lengths .before .if2 .left) (lengths .if3 .left) _
+    (c .refusal2 .ensures)
 
 pub refusal-spec : {M : Type 1} → statement M
 refusal-spec =
@@ -73,8 +58,5 @@ refusal-spec =
     returns-2
     mul-if3
     returns-3
-    first-bad-row-requires
-    returns-4
-    first-bad-column-requires
-    returns-5
-    returns-6)
+    refusal-requires-2
+    returns-4)

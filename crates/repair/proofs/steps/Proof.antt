@@ -47,9 +47,11 @@ same-length-3 : tie.Need-same-length-3
 same-length-3 c = c .before .before .before .before .before .before .before .before .before .before .run-passes .kept .1 .1 .1 .0 ∙ c .before .before .before .before .before .before .before .before .before .before .before .before .before .before .before .before .before .before .before .before .before .before .read-all .kept .1 .1 .1 .1 .0
 
 returns : tie.Need-returns
-returns c =
-    (λ parity tracked. finished _ _ parity _ _ _ _ _ _ _ _ _ _ _ (c .before .before .before .before .before .before .before .before .before .before .before .before .before .before .before .before .before .before .before .before .before .before .read-all .ensures parity tracked) (c .before .before .before .before .before .before .before .before .before .before .run-passes .ensures)
-    (c .before .before .before .before .before .before .before .before .before .before .run-passes .kept .1 .1 .0 ∙ c .before .before .before .before .before .before .before .before .before .before .before .before .before .before .before .before .before .before .before .before .before .before .read-all .kept .1 .1 .1 .0 ∙ c .before .before .before .before .before .before .before .before .before .before .before .before .before .before .before .before .before .before .before .before .before .before .before .before .before .before .before .before .before .before .before .pre .1 .0 .0 .markBytes) (c .answer-after .ensures), refl)
+returns c = (
+  λ parity tracked. finished _ _ parity _ _ _ _ _ _ _ _ _ _ _ (c .before .before .before .before .before .before .before .before .before .before .before .before .before .before .before .before .before .before .before .before .before .before .read-all .ensures parity tracked) (c .before .before .before .before .before .before .before .before .before .before .run-passes .ensures)
+      (c .before .before .before .before .before .before .before .before .before .before .run-passes .kept .1 .1 .0 ∙ c .before .before .before .before .before .before .before .before .before .before .before .before .before .before .before .before .before .before .before .before .before .before .read-all .kept .1 .1 .1 .0 ∙ c .before .before .before .before .before .before .before .before .before .before .before .before .before .before .before .before .before .before .before .before .before .before .before .before .before .before .before .before .before .before .before .pre .1 .0 .0 .markBytes) (c .answer-after .ensures),
+  refl,
+)
 
 pub steps-spec : {M : Type 1} → statement M
 steps-spec =
