@@ -119,7 +119,7 @@ pub fn repair(
         (now (out .entry)) (now (marks .entry))) ⌝ }
 {
     let table = line_table::lent();
-    let answer = refusal(
+    let turned = refusal(
         &table,
         rows,
         columns,
@@ -129,10 +129,10 @@ pub fn repair(
         out,
         marks,
     );
-    if answer != 0 {
-        let number = parity::number_with(answer, &table, rows, columns, row_table, column_table);
+    if turned != 0 {
+        let number = parity::number_with(turned, &table, rows, columns, row_table, column_table);
         return Repaired {
-            answer,
+            answer: turned,
             passes: 0,
             number,
         };
