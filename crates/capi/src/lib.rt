@@ -131,8 +131,8 @@ pub extern "C" fn sudoku_repair(
     ensures { λ r. ⌜ _≡_ {A = StoreRepaired}
         (record {
           answer = r;
-          number = now (number .exit);
           passes = now (passes .exit);
+          number = now (number .exit);
           lines = now (out .exit);
           marks = now (marks .exit);
         })

@@ -1,7 +1,6 @@
 -- What changing a line refuses, past the tests of the sizes, and what it leaves.
 use mathlib.Core.Path.{_≡_, refl, sym, ap, _∙_}
-use mathlib.Core.Bool.{Bool}
-use mathlib.Core.List.{List, [], _∷_}
+use mathlib.Core.List.{List}
 use Prim.Native.Nat.{ℕ, suc, _*_, _/_, _%_, _≤_, _<_}
 use native.Mathlib.Nat.{mul-le-mul-right}
 use native.Mathlib.Omega.{arith}
@@ -10,30 +9,13 @@ use lib.Dec.{eqb, ltb}
 use lib.ListN.{length}
 use Rattle.linecode.specs.Places.{dataBytes}
 use Rattle.rectangle.specs.Store.{putLine, rowGroup, columnGroup}
-use Rattle.rectangle.specs.Refusals.{unless, parityCorrect, acceptedAt, changeRefusal, numberWith}
+use Rattle.rectangle.specs.Refusals.{unless, parityCorrect, parityRefusal, acceptedAt, changeRefusal, numberWith}
 use Rattle.rectangle.specs.Change.{newLine, difference, addTo, LineChanged, changeLine}
 use Rattle.rectangle.proofs.Groups.{sides, row-below, column-below}
 use Rattle.rectangle.proofs.Area.{line-bytes}
 use Rattle.rectangle.proofs.Runs as Runs
-use Rattle.rectangle.proofs.Tests.{passed, refused-there, refused-later}
+use Rattle.rectangle.proofs.Tests.{passed}
 use Rattle.rectangle.proofs.Refusing.{sizeTests, sizes-refused, sizes-past, sizes-then, sizes-next, SizesPass}
-
--- the parity lines of row r and of column c, and then the next test
-abbrev pub parityThen : ℕ → ℕ → List ℕ → List ℕ → ℕ → ℕ → ℕ → ℕ
-parityThen rows columns rowTable columnTable r c next =
-    unless (parityCorrect (rowGroup columns rowTable r)) 13
-    (unless (parityCorrect (columnGroup rows columns columnTable c)) 14 next)
-
-module _ (rows columns : ℕ) (rowTable columnTable : List ℕ) (r c next a : ℕ)
-    (is : a ≡ parityThen rows columns rowTable columnTable r c 0) where
-  abbrev tests : List (Bool × ℕ)
-  tests = (parityCorrect (rowGroup columns rowTable r), 13) ∷ (parityCorrect (columnGroup rows columns columnTable c), 14) ∷ []
-
-  pub parity-refused : (a ≡ 0 → ⊥) → parityThen rows columns rowTable columnTable r c next ≡ a
-  parity-refused = refused-there tests a next is
-
-  pub parity-passed : a ≡ 0 → parityThen rows columns rowTable columnTable r c next ≡ next
-  parity-passed = refused-later tests a next refl is
 
 module _ (rows columns : ℕ) (lines rowTable columnTable : List ℕ) where
   -- a line of the rectangle and its two parity lines lie inside the buffers
@@ -62,7 +44,9 @@ module _ (rows columns : ℕ) (lines rowTable columnTable : List ℕ) where
     changeTests =
         unless (eqb (length payload) 64) 7
         (unless (ltb n (rows * columns)) 8
-        (parityThen rows columns rowTable columnTable (n / columns) (n % columns)
+        (parityRefusal
+        (parityCorrect (rowGroup columns rowTable (n / columns)))
+        (parityCorrect (columnGroup rows columns columnTable (n % columns)))
         (unless (acceptedAt lines n) 10 0)))
 
     pub change-sizes : (r : ℕ) → r ≡ sizeTests rows columns lines rowTable columnTable → (r ≡ 0 → ⊥) → changeRefusal rows columns lines rowTable columnTable n payload ≡ r

@@ -18,7 +18,7 @@ ghost use mathlib.Core.Path.{_≡_};
 ghost use Prim.Native.Nat.{ℕ, suc, _*_, _/_, _%_, _≤_, _<_};
 ghost use lib.ListN.{length};
 ghost use Rattle.rectangle.specs.Store.{aloneAt, inBytes, rowGroup, columnGroup};
-ghost use Rattle.rectangle.specs.Refusals.{unless, parityCorrect, changeRefusal, numberWith};
+ghost use Rattle.rectangle.specs.Refusals.{parityCorrect, parityRefusal, changeRefusal, numberWith};
 ghost use Rattle.rectangle.specs.Change.{LineChanged, changeLine};
 
 // What a change answers, and the number of its row or column that comes with 13 or 14, otherwise 0.
@@ -39,15 +39,15 @@ fn alone_at(buffer: &[u8], n: usize) -> Reading
 fn parity_refusal(row_table: &[u8], row: RowIndex, column_table: &[u8], column: ColumnIndex) -> u32
     requires { ⌜ (suc (row .0) * 70 ≤ length (now «row_table»)) × (suc (column .0) * 70 ≤ length (now «column_table»)) ⌝ }
     ensures { λ r. ⌜ ((rows columns : ℕ) → r
-        ≡ unless (parityCorrect (rowGroup columns (now («row_table» .entry)) (row .0))) 13
-        (unless (parityCorrect (columnGroup rows columns (now («column_table» .entry)) (column .0))) 14 0)) ⌝ }
+        ≡ parityRefusal (parityCorrect (rowGroup columns (now («row_table» .entry)) (row .0)))
+        (parityCorrect (columnGroup rows columns (now («column_table» .entry)) (column .0))) 0) ⌝ }
 {
-    let of_row = alone::is_correct(row_parity(row_table, row));
-    let of_column = alone::is_correct(column_parity(column_table, column));
-    if !of_row {
+    let of_row = row_parity(row_table, row);
+    let of_column = column_parity(column_table, column);
+    if !alone::is_correct(of_row) {
         return 13;
     }
-    if !of_column {
+    if !alone::is_correct(of_column) {
         return 14;
     }
     0
@@ -83,9 +83,10 @@ fn refusal(
     if rows * columns <= n {
         return 8;
     }
+    // What is tested last is read first, so that the answers stand together in their order.
+    let read = alone_at(lines, n);
     let row = row_of(columns, n);
     let bad = parity_refusal(row_table, row, column_table, column_of(columns, n));
-    let read = alone_at(lines, n);
     if bad != 0 {
         return bad;
     }
@@ -97,7 +98,7 @@ fn refusal(
 
 // The number that comes with an answer: that of line n's row with 13, that of its column with 14, otherwise 0.
 fn number_with(answer: u32, columns: usize, n: usize) -> usize
-    requires { ⌜ (answer ≡ 13 → 0 < columns) × (answer ≡ 14 → 0 < columns) ⌝ }
+    requires { ⌜ (6 < answer → 0 < columns) ⌝ }
     ensures { λ r. ⌜ r ≡ numberWith answer (n / columns) (n % columns) ⌝ }
 {
     if answer == 13 {

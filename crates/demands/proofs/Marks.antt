@@ -104,8 +104,8 @@ unfolding handedOver
 same-handed gs one two same =
     record {
       answer = same .answers;
-      number = refl;
       passes = same .passes;
+      number = refl;
       lines = ap bufferOf (same .lines);
       count = counted (one .cells) ∙ ap length (same .lines) ∙ sym (counted (two .cells));
       marks = λ n. rw (mark-at (one .cells) n, mark-at (two .cells) n) (same .marks n .mark);
@@ -125,4 +125,4 @@ repairedAsBefore r out marks = go (zero-or-not (refusal r out marks))
         (acceptedMarksDecideNothing (readLine layerBefore) (readLine lineLayer) (λ n. as-before (lineLayer .address n))
         (groups (r .rows) (r .columns) (r .rowTable) (r .columnTable)) (linesIn (count r) (r .lines))))
     go (inr d) =
-        rw (ne-eqb _ 0 d, refused r out marks d) (record { answer = refl; number = refl; passes = refl; lines = refl; count = refl; marks = λ n. inl refl })
+        rw (ne-eqb _ 0 d, refused r out marks d) (record { answer = refl; passes = refl; number = refl; lines = refl; count = refl; marks = λ n. inl refl })

@@ -40,8 +40,8 @@ module _ (r : Rectangle) (out marks : List ℕ) where
       → repairOf r out marks
       ≡ record {
         answer = refusal;
-        number = repairNumber refusal (r .rows) (r .columns) (r .rowTable) (r .columnTable);
         passes = 0;
+        number = repairNumber refusal (r .rows) (r .columns) (r .rowTable) (r .columnTable);
         lines = out;
         marks = marks;
       }

@@ -44,8 +44,8 @@ repairBefore r out marks =
     cond (eqb refusal 0) (handedOver gs (repair (readLine layerBefore) gs (linesIn (count r) (r .lines))))
     (record {
       answer = refusal;
-      number = repairNumber refusal (r .rows) (r .columns) (r .rowTable) (r .columnTable);
       passes = 0;
+      number = repairNumber refusal (r .rows) (r .columns) (r .rowTable) (r .columnTable);
       lines = out;
       marks = marks;
     })

@@ -25,15 +25,15 @@ pub record FirstBad (Good : ℕ → Type 0) (total number : ℕ) : Type 0 where
   pub before : (k : ℕ) → k < number → Good k
 
 -- "otherwise 0": with any other answer than 13 and 14
-abbrev pub NumberOnly : ℕ → ℕ → Type 0
-NumberOnly answer number = (answer ≡ 13 → ⊥) → (answer ≡ 14 → ⊥) → number ≡ 0
+abbrev pub OtherwiseZero : ℕ → ℕ → Type 0
+OtherwiseZero answer number = (answer ≡ 13 → ⊥) → (answer ≡ 14 → ⊥) → number ≡ 0
 
 -- what repair's answer and number tell, "rows tested first"
 pub record RepairNames (r : Rectangle) (given : StoreRepaired) : Type 0 where
   pub row : given .answer ≡ 13 → FirstBad (RowCorrect r) (r .rows) (given .number)
   pub column : given .answer ≡ 14 → FirstBad (ColumnCorrect r) (r .columns) (given .number)
   pub rowsFirst : given .answer ≡ 14 → (k : ℕ) → k < r .rows → RowCorrect r k
-  pub otherwise : NumberOnly (given .answer) (given .number)
+  pub otherwise : OtherwiseZero (given .answer) (given .number)
   -- where lines and marks are handed over, no table needs to be reloaded
   pub rowsCorrect : handsOver (given .answer) ≡ true → (k : ℕ) → k < r .rows → RowCorrect r k
   pub columnsCorrect : handsOver (given .answer) ≡ true → (k : ℕ) → k < r .columns → ColumnCorrect r k
@@ -46,7 +46,7 @@ pub record ChangeNames (r : Rectangle) (n : ℕ) (given : LineChanged) : Type 0 
   pub row : given .answer ≡ 13 → (given .number ≡ n / r .columns) × (RowCorrect r (given .number) → ⊥)
   pub column : given .answer ≡ 14 → (given .number ≡ n % r .columns) × (ColumnCorrect r (given .number) → ⊥)
   pub rowFirst : given .answer ≡ 14 → RowCorrect r (n / r .columns)
-  pub otherwise : NumberOnly (given .answer) (given .number)
+  pub otherwise : OtherwiseZero (given .answer) (given .number)
   -- where the line is changed, both of its parity lines were correct
   pub rowCorrect : given .answer ≡ 0 → RowCorrect r (n / r .columns)
   pub columnCorrect : given .answer ≡ 0 → ColumnCorrect r (n % r .columns)

@@ -1,7 +1,6 @@
 -- Laws of groups on lent buffers.
 pub mod Walk
 pub mod Seeking
-pub mod Checking
 pub mod Numbers
 pub mod Held
 pub mod Rooms

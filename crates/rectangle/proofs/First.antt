@@ -8,9 +8,9 @@ use native.Mathlib.Nat.{zero-add, le-of-suc-le-suc, not-suc-le-zero, lt-of-not-l
 use native.Mathlib.Omega.{arith}
 use Rattle.linecode.specs.Code.{upFrom}
 use Rattle.rectangle.specs.Refusals.{every, firstFailing}
-use Rattle.rectangle.proofs.Tests.{every-image, image-fails}
+use Rattle.rectangle.proofs.Tests.{every-below, fails-below, every-image, image-fails}
 
-pub first-map : {A B : Type 0} (test : B → Bool) (f : A → B) (l : List A) → firstFailing test (map f l) ≡ firstFailing (λ a. test (f a)) l
+first-map : {A B : Type 0} (test : B → Bool) (f : A → B) (l : List A) → firstFailing test (map f l) ≡ firstFailing (λ a. test (f a)) l
 first-map test f [] = refl
 first-map test f (a ∷ l) = ap (λ (n : ℕ). cond (test (f a)) (suc n) 0) (first-map test f l)
 
@@ -101,7 +101,14 @@ passed-next test total r p h e = record { few = omega arith; before = λ k less.
     go k (inl same) = ap test same ∙ e
     go k (inr less) = p .before k less
 
--- the next one fails, or none is left
+-- the next one fails, or none is left: of a test by numbers, and of things numbered from 0
+module _ (test : ℕ → Bool) (total r : ℕ) (p : Passed test total r) where
+  pub not-every : r < total → test r ≡ false → false ≡ every test (upFrom 0 total)
+  not-every h e = sym (fails-below test total r h e)
+
+  pub every-one : total ≤ r → true ≡ every test (upFrom 0 total)
+  every-one h = sym (every-below test total (λ k less. p .before k (omega arith)))
+
 module _ {A : Type 0} (test : A → Bool) (f : ℕ → A) (n r : ℕ) (p : Passed (λ k. test (f k)) n r) where
   pub next-fails : test (f r) ≡ false → r ≡ firstFailing test (map f (upFrom 0 n))
   next-fails e = first-is test f n r (record { few = p .few; before = p .before; fails = λ h. e })

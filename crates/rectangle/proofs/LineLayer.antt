@@ -83,8 +83,7 @@ parity-tests g = promises .tests (g .parity)
 -- and so where it has the places of one
 pub parity-passes : (g : Group) (w : Word) → g .parity ≡ w → lineLayer .Correct (parityAddress lineLayer (g .members)) w
     → parityCorrect g ≡ true
-unfolding parityCorrect isCorrectUnder CorrectUnder
-parity-passes g w e c = ap isCorrect e ∙ promises .tests w .1 c
+parity-passes g w e c = parity-tests g .1 (subst (lineLayer .Correct (parityAddress lineLayer (g .members))) (sym e) c)
 
 -- ---- writing line n from 64 data bytes
 module _ (n : ℕ) (payload : List ℕ) where

@@ -1,4 +1,5 @@
--- The three entry points without their choice: what a call that is not refused gives, and what a refused one leaves.
+-- The three entry points without their choice: what a call that is not refused gives, what a refused one leaves, and which answers there
+-- are.
 use mathlib.Core.Path.{_≡_, refl, _∙_}
 use mathlib.Core.Logic.{_⊎_, inl, inr}
 use mathlib.Core.Bool.{Bool, true, false, not, cond, _&&_}
@@ -14,7 +15,7 @@ use Rattle.scheme.specs.Visit.{Group, State}
 use Rattle.scheme.specs.Demand3.{_∈_}
 use Rattle.scheme.specs.Repair.{faultyCount, agrees, answer}
 use Rattle.rectangle.specs.Store.{putLine, rowGroup, columnGroup, rowGroups, columnGroups, groups}
-use Rattle.rectangle.specs.Refusals.{every, sidesFit, holds, tablesFit, parityCorrect, acceptedAt, tablesRefusal, tablesAnswers, changeRefusal, changeAnswers, repairRefusal, repairAnswers, numberWith}
+use Rattle.rectangle.specs.Refusals.{every, sidesFit, holds, tablesFit, parityCorrect, acceptedAt, tablesRefusal, tablesAnswers, changeRefusal, changeAnswers, repairRefusal, repairRefusals, repairAnswers, numberWith}
 use Rattle.rectangle.specs.Tables.{rowTableOf, columnTableOf, makeTables}
 use Rattle.rectangle.specs.Change.{newLine, difference, addTo, changeLine}
 use Rattle.rectangle.specs.Repair.{repaired, handsOver, handedOver, repairNumber, repairStore}
@@ -27,7 +28,7 @@ zero-or-not zero = inl refl
 zero-or-not (suc n) = inr (λ e. omega arith)
 
 -- the steps' own answers
-pub answer-own : (gs : List Group) (s : State) → answer gs s ∈ (0 ∷ 11 ∷ 12 ∷ [])
+answer-own : (gs : List Group) (s : State) → answer gs s ∈ (0 ∷ 11 ∷ 12 ∷ [])
 unfolding answer
 answer-own gs s = go (eqb (faultyCount s) 0) (agrees gs s)
   where
@@ -36,18 +37,14 @@ answer-own gs s = go (eqb (faultyCount s) 0) (agrees gs s)
     go true false = inr (inr (inl refl))
     go false agree = inr (inl refl)
 
--- hand over
+-- with these, repair hands over
 pub answer-hands-over : (gs : List Group) (s : State) → handsOver (answer gs s) ≡ true
 unfolding handsOver
 answer-hands-over gs s = every-at handsOver (0 ∷ 11 ∷ 12 ∷ []) refl (answer gs s) (answer-own gs s)
 
--- what repair answers before its steps
-abbrev repairRefusals : List ℕ
-repairRefusals = 0 ∷ 2 ∷ 5 ∷ 6 ∷ 7 ∷ 13 ∷ 14 ∷ []
-
 module _ (rows columns : ℕ) (lines rowTable columnTable : List ℕ) where
   -- ---- each entry point's refusals, 0 among them
-  pub tables-refusals : tablesRefusal rows columns lines rowTable columnTable ∈ tablesAnswers
+  tables-refusals : tablesRefusal rows columns lines rowTable columnTable ∈ tablesAnswers
   unfolding tablesRefusal
   tables-refusals =
       refusal-in
@@ -57,7 +54,7 @@ module _ (rows columns : ℕ) (lines rowTable columnTable : List ℕ) where
       ∷ (every (acceptedAt lines) (upFrom 0 (rows * columns)), 10)
       ∷ [])
 
-  pub change-refusals : (n : ℕ) (payload : List ℕ) → changeRefusal rows columns lines rowTable columnTable n payload ∈ changeAnswers
+  change-refusals : (n : ℕ) (payload : List ℕ) → changeRefusal rows columns lines rowTable columnTable n payload ∈ changeAnswers
   unfolding changeRefusal
   change-refusals n payload =
       refusal-in
@@ -71,7 +68,7 @@ module _ (rows columns : ℕ) (lines rowTable columnTable : List ℕ) where
       ∷ (acceptedAt lines n, 10)
       ∷ [])
 
-  pub repair-refusals : (out marks : List ℕ)
+  repair-refusals : (out marks : List ℕ)
       → repairRefusal rows columns lines rowTable columnTable out marks ∈ repairRefusals
   unfolding repairRefusal
   repair-refusals out marks =
@@ -145,8 +142,8 @@ module _ (rows columns : ℕ) (lines rowTable columnTable : List ℕ) where
         → repairStore rows columns lines rowTable columnTable out marks
         ≡ record {
           answer = refusal;
-          number = repairNumber refusal rows columns rowTable columnTable;
           passes = 0;
+          number = repairNumber refusal rows columns rowTable columnTable;
           lines = out;
           marks = marks;
         }

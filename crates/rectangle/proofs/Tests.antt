@@ -12,12 +12,12 @@ use Rattle.linecode.specs.Places.{lineBytes}
 use Rattle.linecode.specs.Code.{upFrom}
 use lib.ListN.{length}
 use Rattle.scheme.specs.Demand3.{_∈_}
-use Rattle.rectangle.specs.Refusals.{unless, every, sidesFit, holds, tablesFit, acceptedAt, tablesRefusal}
+use Rattle.rectangle.specs.Refusals.{unless, every, sidesFit, holds, tablesFit, parityRefusal, acceptedAt, tablesRefusal}
 use Rattle.rectangle.proofs.Members.{in-upFrom, upFrom-bounds}
 use Rattle.rectangle.proofs.Buffer.{holds-length, length-holds}
 
 -- ---- every one of a list
-pub every-true : {A : Type 0} (test : A → Bool) (l : List A) → ((a : A) → a ∈ l → test a ≡ true) → every test l ≡ true
+every-true : {A : Type 0} (test : A → Bool) (l : List A) → ((a : A) → a ∈ l → test a ≡ true) → every test l ≡ true
 every-true test [] h = refl
 every-true test (a ∷ l) h = rw (h a (inl refl)) (every-true test l (λ b i. h b (inr i)))
 
@@ -25,10 +25,6 @@ pub every-at : {A : Type 0} (test : A → Bool) (l : List A) → every test l �
 every-at test [] e a i = absurd i
 every-at test (b ∷ l) e a (inl p) = ap test p ∙ and-eq-true-iff (test b) (every test l) .0 e .0
 every-at test (b ∷ l) e a (inr i) = every-at test l (and-eq-true-iff (test b) (every test l) .0 e .1) a i
-
-every-map : {A B : Type 0} (test : B → Bool) (f : A → B) (l : List A) → every test (map f l) ≡ every (λ a. test (f a)) l
-every-map test f [] = refl
-every-map test f (a ∷ l) = ap (λ (b : Bool). test (f a) && b) (every-map test f l)
 
 -- or some one fails
 pub some-fails : {A : Type 0} (test : A → Bool) (l : List A) → every test l ≡ false → (a : A) × (a ∈ l) × (test a ≡ false)
@@ -70,7 +66,11 @@ below-every test k e n h = ap test (sym (zero-add n)) ∙ from-every test 0 k e 
 pub fails-below : (test : ℕ → Bool) (k n : ℕ) → n < k → test n ≡ false → every test (upFrom 0 k) ≡ false
 fails-below test k n h e = fails-from test 0 k n h (ap test (zero-add n) ∙ e)
 
--- and of what is numbered from 0
+-- and of an image, of what is numbered from 0
+every-map : {A B : Type 0} (test : B → Bool) (f : A → B) (l : List A) → every test (map f l) ≡ every (λ a. test (f a)) l
+every-map test f [] = refl
+every-map test f (a ∷ l) = ap (λ (b : Bool). test (f a) && b) (every-map test f l)
+
 module _ {A : Type 0} (test : A → Bool) (f : ℕ → A) (k : ℕ) where
   pub every-image : ((n : ℕ) → n < k → test (f n) ≡ true) → every test (map f (upFrom 0 k)) ≡ true
   every-image h = every-map test f (upFrom 0 k) ∙ every-below (λ n. test (f n)) k h
@@ -139,6 +139,31 @@ pub either-way : {A : Type 0} (P : A → Type 0) (b : Bool) (x y : A) → P x �
 either-way P true x y p q = p
 either-way P false x y p q = q
 
+-- ---- 13, then 14, then the next test
+module _ (ofRows ofColumns : Bool) (next : ℕ) where
+  abbrev parityTests : List (Bool × ℕ)
+  parityTests = (ofRows, 13) ∷ (ofColumns, 14) ∷ []
+
+  -- what the two tests give is theirs, or the next test decides
+  pub parity-refused : (a : ℕ) → a ≡ parityRefusal ofRows ofColumns 0 → (a ≡ 0 → ⊥) → parityRefusal ofRows ofColumns next ≡ a
+  parity-refused a = refused-there parityTests a next
+
+  pub parity-passed : (a : ℕ) → a ≡ parityRefusal ofRows ofColumns 0 → a ≡ 0 → parityRefusal ofRows ofColumns next ≡ next
+  parity-passed a = refused-later parityTests a next refl
+
+  -- and what each answer tells
+  pub row-fails : (next ≡ 13 → ⊥) → parityRefusal ofRows ofColumns next ≡ 13 → ofRows ≡ false
+  row-fails other = failed ofRows _ (λ e. other (passed ofColumns 14 next (λ z. omega arith) e .1))
+
+  pub column-fails : (next ≡ 14 → ⊥) → parityRefusal ofRows ofColumns next ≡ 14 → (ofRows ≡ true) × (ofColumns ≡ false)
+  column-fails other e =
+      let row = passed ofRows 13 _ (λ z. omega arith) e in (row .0, failed ofColumns next other (row .1))
+
+  pub both-pass : parityRefusal ofRows ofColumns next ≡ 0 → (ofRows ≡ true) × (ofColumns ≡ true)
+  both-pass e =
+      let row = passed ofRows 13 _ (λ z. omega arith) e in (row .0, passed ofColumns 14 next (λ z. omega arith) (row .1) .0)
+
+-- ---- making tables
 -- both tables have the lengths that refusal 6 asks for
 pub tables-lengths : (rows columns : ℕ) (rowTable columnTable : List ℕ) → tablesFit rows columns rowTable columnTable ≡ true
     → (length rowTable ≡ rows * lineBytes) × (length columnTable ≡ columns * lineBytes)

@@ -1,6 +1,6 @@
 -- Document 01, "Turned back, in checking order": for each entry point the first refusal of the list that fits, or 0.
 use mathlib.Core.Bool.{Bool, true, not, cond, _&&_}
-use mathlib.Core.List.{List, [], _∷_}
+use mathlib.Core.List.{List, [], _∷_, _++_}
 use Prim.Native.Nat.{ℕ, suc, _*_, _/_, _%_}
 use lib.Dec.{eqb, leb, ltb}
 use lib.ListN.{length}
@@ -19,7 +19,7 @@ abbrev pub every : {A : Type 0} → (A → Bool) → List A → Bool
 every test [] = true
 every test (a ∷ l) = test a && every test l
 
--- the number of the first of a list that fails a test, counted from 0
+-- the number of the first of a list that fails a test, counted from 0; if none does, how many there are
 abbrev pub firstFailing : {A : Type 0} → (A → Bool) → List A → ℕ
 firstFailing test [] = 0
 firstFailing test (a ∷ l) = cond (test a) (suc (firstFailing test l)) 0
@@ -43,6 +43,10 @@ tablesFit rows columns rowTable columnTable = holds rows rowTable && holds colum
 unfoldable pub parityCorrect : Group → Bool
 parityCorrect g = isCorrectUnder (parityAddress lineLayer (g .members)) (g .parity)
 
+-- 13, then 14: a row's, or every row's, parity line is correct, then a column's, or every column's; then the next test
+abbrev pub parityRefusal : Bool → Bool → ℕ → ℕ
+parityRefusal ofRows ofColumns next = unless ofRows 13 (unless ofColumns 14 next)
+
 -- 10: a line is not faulty where it is read alone
 unfoldable pub acceptedAt : List ℕ → ℕ → Bool
 acceptedAt lines n = not (isFaulty (aloneAt lines n))
@@ -55,7 +59,7 @@ tablesRefusal rows columns lines rowTable columnTable =
     (unless (tablesFit rows columns rowTable columnTable) 6
     (unless (every (acceptedAt lines) (upFrom 0 (rows * columns))) 10 0)))
 
--- and so what it may answer
+-- the answers that making tables may give: 0 and its refusals
 abbrev pub tablesAnswers : List ℕ
 tablesAnswers = 0 ∷ 2 ∷ 5 ∷ 6 ∷ 10 ∷ []
 
@@ -67,10 +71,12 @@ changeRefusal rows columns lines rowTable columnTable n payload =
     (unless (tablesFit rows columns rowTable columnTable) 6
     (unless (eqb (length payload) dataBytes) 7
     (unless (ltb n (rows * columns)) 8
-    (unless (parityCorrect (rowGroup columns rowTable (n / columns))) 13
-    (unless (parityCorrect (columnGroup rows columns columnTable (n % columns))) 14
-    (unless (acceptedAt lines n) 10 0)))))))
+    (parityRefusal
+    (parityCorrect (rowGroup columns rowTable (n / columns)))
+    (parityCorrect (columnGroup rows columns columnTable (n % columns)))
+    (unless (acceptedAt lines n) 10 0))))))
 
+-- the answers that a change may give: 0 and its refusals
 abbrev pub changeAnswers : List ℕ
 changeAnswers = 0 ∷ 2 ∷ 5 ∷ 6 ∷ 7 ∷ 8 ∷ 13 ∷ 14 ∷ 10 ∷ []
 
@@ -81,12 +87,17 @@ repairRefusal rows columns lines rowTable columnTable out marks =
     (unless (holds (rows * columns) lines) 5
     (unless (tablesFit rows columns rowTable columnTable) 6
     (unless (holds (rows * columns) out && eqb (length marks) (rows * columns)) 7
-    (unless (every parityCorrect (rowGroups rows columns rowTable)) 13
-    (unless (every parityCorrect (columnGroups rows columns columnTable)) 14 0)))))
+    (parityRefusal
+    (every parityCorrect (rowGroups rows columns rowTable))
+    (every parityCorrect (columnGroups rows columns columnTable))
+    0))))
 
--- 11 and 12 are answers of its steps
+-- the answers that repair may give: 0 and its refusals, and 11 and 12 of its steps
+abbrev pub repairRefusals : List ℕ
+repairRefusals = 0 ∷ 2 ∷ 5 ∷ 6 ∷ 7 ∷ 13 ∷ 14 ∷ []
+
 abbrev pub repairAnswers : List ℕ
-repairAnswers = 0 ∷ 2 ∷ 5 ∷ 6 ∷ 7 ∷ 13 ∷ 14 ∷ 11 ∷ 12 ∷ []
+repairAnswers = repairRefusals ++ (11 ∷ 12 ∷ [])
 
 -- the number that comes with an answer: with 13 that of the bad row, with 14 that of the bad column, otherwise 0
 unfoldable pub numberWith : ℕ → ℕ → ℕ → ℕ

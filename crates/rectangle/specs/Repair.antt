@@ -14,12 +14,12 @@ unfoldable pub repaired : ℕ → ℕ → List ℕ → List ℕ → List ℕ →
 repaired rows columns lines rowTable columnTable =
     repair (readLine lineLayer) (groups rows columns rowTable columnTable) (linesIn (rows * columns) lines)
 
--- what repair answers, the number of the row or column that comes with 13 or 14, its passes, and the line and mark buffers as it
+-- what repair answers, its passes, the number of the row or column that comes with 13 or 14, and the line and mark buffers as it
 -- leaves them
 pub record StoreRepaired : Type 0 where
   pub answer : ℕ
-  pub number : ℕ
   pub passes : ℕ
+  pub number : ℕ
   pub lines : List ℕ
   pub marks : List ℕ
 
@@ -32,8 +32,8 @@ unfoldable pub handedOver : List Group → Repaired → StoreRepaired
 handedOver gs r =
     record {
       answer = answer gs (r .cells);
-      number = 0;
       passes = r .passes;
+      number = 0;
       lines = bufferOf (linesOf (r .cells));
       marks = marksOf (r .cells);
     }
@@ -54,8 +54,8 @@ repairStore rows columns lines rowTable columnTable out marks =
     (handedOver gs (repaired rows columns lines rowTable columnTable))
     (record {
       answer = refusal;
-      number = repairNumber refusal rows columns rowTable columnTable;
       passes = 0;
+      number = repairNumber refusal rows columns rowTable columnTable;
       lines = out;
       marks = marks;
     })

@@ -112,7 +112,7 @@ finished rows columns parity found out₁ marks₁ lacks₁ faulty₁ out marks 
 pub handed : (rows columns : ℕ) (lines rt ct out₀ marks₀ out marks : List ℕ) (answered numbered passed : ℕ)
     → repairRefusal rows columns lines rt ct out₀ marks₀ ≡ 0 → numbered ≡ 0
     → Finished rows columns (parityOf rows rt ct) lines out marks answered passed
-    → _≡_ {A = StoreRepaired} (record { answer = answered; number = numbered; passes = passed; lines = out; marks = marks })
+    → _≡_ {A = StoreRepaired} (record { answer = answered; passes = passed; number = numbered; lines = out; marks = marks })
     (repairStore rows columns lines rt ct out₀ marks₀)
 unfolding repaired handedOver repair
 handed rows columns lines rt ct out₀ marks₀ out marks answered numbered passed e none f =
@@ -128,21 +128,21 @@ handed rows columns lines rt ct out₀ marks₀ out marks answered numbered pass
     Hands gs r =
         record {
           answer = answer gs (r .cells);
-          number = 0;
           passes = r .passes;
+          number = 0;
           lines = bufferOf (linesOf (r .cells));
           marks = marksOf (r .cells);
         }
 
     all-four : (a a′ b b′ : ℕ) (c c′ d d′ : List ℕ) → a ≡ a′ → b ≡ b′ → c ≡ c′ → d ≡ d′
-        → _≡_ {A = StoreRepaired} (record { answer = a; number = b; passes = passed; lines = c; marks = d })
-        (record { answer = a′; number = b′; passes = passed; lines = c′; marks = d′ })
+        → _≡_ {A = StoreRepaired} (record { answer = a; passes = passed; number = b; lines = c; marks = d })
+        (record { answer = a′; passes = passed; number = b′; lines = c′; marks = d′ })
     all-four a a′ b b′ c c′ d d′ i j k l = cc
 
 pub refused-whole : (rows columns : ℕ) (lines rt ct out marks : List ℕ) (r number : ℕ)
     → r ≡ repairRefusal rows columns lines rt ct out marks → (r ≡ 0 → ⊥) → number ≡ repairNumber r rows columns rt ct
-    → _≡_ {A = StoreRepaired} (record { answer = r; number = number; passes = 0; lines = out; marks = marks })
+    → _≡_ {A = StoreRepaired} (record { answer = r; passes = 0; number = number; lines = out; marks = marks })
     (repairStore rows columns lines rt ct out marks)
 refused-whole rows columns lines rt ct out marks r number e d f =
-    ap (λ (k : ℕ). record { answer = r; number = k; passes = 0; lines = out; marks = marks }) f
+    ap (λ (k : ℕ). record { answer = r; passes = 0; number = k; lines = out; marks = marks }) f
     ∙ sym (repair-refused rows columns lines rt ct out marks r (sym e) d)

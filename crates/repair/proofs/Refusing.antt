@@ -10,7 +10,7 @@ use lib.Dec.{eqb}
 use lib.ListN.{length}
 use Rattle.linecode.specs.Places.{lineBytes}
 use Rattle.rectangle.specs.Store.{rowGroup, columnGroup, rowGroups, columnGroups}
-use Rattle.rectangle.specs.Refusals.{unless, every, firstFailing, sidesFit, holds, parityCorrect, repairRefusal}
+use Rattle.rectangle.specs.Refusals.{unless, every, firstFailing, sidesFit, holds, parityCorrect, parityRefusal, repairRefusal}
 use Rattle.rectangle.proofs.Groups.{sides}
 use Rattle.rectangle.proofs.Refusing.{sizeTests, sizes-refused, sizes-past, sizes-then, sizes-next, SizesPass}
 use Rattle.rectangle.proofs.First.{all-pass, one-fails}
@@ -21,8 +21,7 @@ use Rattle.groups.specs.Lent.{Rectangular}
 module _ (rows columns : ℕ) (rt ct : List ℕ) where
   abbrev parityTests : ℕ
   parityTests =
-      unless (every parityCorrect (rowGroups rows columns rt)) 13
-      (unless (every parityCorrect (columnGroups rows columns ct)) 14 0)
+      parityRefusal (every parityCorrect (rowGroups rows columns rt)) (every parityCorrect (columnGroups rows columns ct)) 0
 
   -- the first bad row and the first bad column decide
   module _ (r : ℕ) (e : r ≡ firstFailing parityCorrect (rowGroups rows columns rt)) where

@@ -4,7 +4,7 @@ mod passes;
 
 ghost use mathlib.Core.Path.{_≡_};
 ghost use mathlib.Core.List.{[]};
-ghost use Prim.Native.Nat.{ℕ, _+_, _*_, _≤_};
+ghost use Prim.Native.Nat.{ℕ, _*_, _≤_};
 ghost use lib.ListN.{length, replicate};
 ghost use Rattle.gf2.specs.Word.{Word};
 ghost use Rattle.scheme.specs.Visit.{State};
@@ -114,12 +114,12 @@ pub fn repair(
     marks: &mut [u8],
 ) -> Repaired
     ensures { λ r. ⌜ _≡_ {A = StoreRepaired}
-        (record { answer = r .answer; number = r .number; passes = r .passes; lines = now (out .exit); marks = now (marks .exit) })
+        (record { answer = r .answer; passes = r .passes; number = r .number; lines = now (out .exit); marks = now (marks .exit) })
         (repairStore rows columns (now (lines .entry)) (now («row_table» .entry)) (now («column_table» .entry))
         (now (out .entry)) (now (marks .entry))) ⌝ }
 {
     let table = line_table::lent();
-    let turned = refusal(
+    let answer = refusal(
         &table,
         rows,
         columns,
@@ -129,10 +129,10 @@ pub fn repair(
         out,
         marks,
     );
-    if turned != 0 {
-        let number = parity::number_with(turned, &table, rows, columns, row_table, column_table);
+    if answer != 0 {
+        let number = parity::number_with(answer, &table, rows, columns, row_table, column_table);
         return Repaired {
-            answer: turned,
+            answer,
             passes: 0,
             number,
         };

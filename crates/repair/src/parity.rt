@@ -5,7 +5,7 @@ ghost use Prim.Native.Nat.{ℕ, _+_, _*_, _≤_, _<_};
 ghost use lib.ListN.{length};
 ghost use Rattle.linecode.specs.Places.{lineOf};
 ghost use Rattle.rectangle.specs.Store.{placesAt, bytesAt, rowGroups, columnGroups};
-ghost use Rattle.rectangle.specs.Refusals.{unless, every, firstFailing, parityCorrect};
+ghost use Rattle.rectangle.specs.Refusals.{every, firstFailing, parityCorrect, parityRefusal};
 ghost use Rattle.rectangle.specs.Repair.{repairNumber};
 ghost use Rattle.line_table.specs.Table.{lineTable};
 use groups::tracked;
@@ -57,9 +57,10 @@ pub fn refusal(
     requires table { ⌜ now table ≡ lineTable ⌝ }
     requires whole { ⌜ (length (now «row_table») ≡ rows * 70) × (length (now «column_table») ≡ columns * 70) ⌝ }
     ensures { λ r. ⌜ r
-        ≡ unless (every parityCorrect (rowGroups rows columns (now («row_table» .entry)))) 13
-        (unless (every parityCorrect (columnGroups rows columns (now («column_table» .entry)))) 14 0) ⌝ }
+        ≡ parityRefusal (every parityCorrect (rowGroups rows columns (now («row_table» .entry))))
+        (every parityCorrect (columnGroups rows columns (now («column_table» .entry)))) 0 ⌝ }
 {
+    // Both are looked for, then answered in their order.
     let row = first_bad_row(table, rows, row_table);
     let column = first_bad_column(table, columns, column_table);
     if row != rows {
@@ -81,7 +82,7 @@ pub fn number_with(
     column_table: &[u8],
 ) -> usize
     requires table { ⌜ now table ≡ lineTable ⌝ }
-    requires whole { ⌜ (answer ≡ 13 → length (now «row_table») ≡ rows * 70) × (answer ≡ 14 → length (now «column_table») ≡ columns * 70) ⌝ }
+    requires whole { ⌜ (6 < answer → (length (now «row_table») ≡ rows * 70) × (length (now «column_table») ≡ columns * 70)) ⌝ }
     ensures { λ r. ⌜ r ≡ repairNumber answer rows columns (now («row_table» .entry)) (now («column_table» .entry)) ⌝ }
 {
     if answer == 13 {

@@ -40,7 +40,7 @@ fn repair_opened(
 ) -> Repaired
     requires { ⌜ (rows ≤ 512) × (columns ≤ 512) ⌝ }
     ensures { λ r. ⌜ _≡_ {A = StoreRepaired}
-        (record { answer = r .answer; number = r .number; passes = r .passes; lines = now (out .exit); marks = now (marks .exit) })
+        (record { answer = r .answer; passes = r .passes; number = r .number; lines = now (out .exit); marks = now (marks .exit) })
         (repairOpened (now (file .entry)) rows columns (now (out .entry)) (now (marks .entry))) ⌝ }
 {
     let lines = opening::part_of(file, header::lines_part(rows, columns));

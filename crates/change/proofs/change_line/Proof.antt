@@ -1,7 +1,6 @@
 -- `change::change_line` meets its contract: a refusal, or the line and its two parity lines written.
 use mathlib.Core.Path.{_≡_, sym, ap, ap₂, _∙_}
 use Prim.Native.Nat.{ℕ}
-use native.Mathlib.Omega.{arith}
 use borrow.Author.Needs.{needs}
 use Rattle.linecode.specs.Places.{places, lineOf}
 use Rattle.rectangle.specs.Refusals.{changeRefusal}
@@ -19,9 +18,8 @@ refusal-requires c κs = search needs
 number-with-requires : tie.Need-number-with-requires
 number-with-requires c κs =
     let a = c .before .before .before .before .before .before .before .before .before .args in
-    let some = numbered-columns (a .rows) (a .columns) (a .lines .now) (a .row-table .now) (a .column-table .now) (a .n) (a .payload .now) _
-    (c .before .refusal .ensures) in
-    (λ e. some (omega arith), λ e. some (omega arith))
+    numbered-columns (a .rows) (a .columns) (a .lines .now) (a .row-table .now) (a .column-table .now) (a .n) (a .payload .now) _
+    (c .before .refusal .ensures)
 
 same-length : tie.Need-same-length
 same-length c = search needs

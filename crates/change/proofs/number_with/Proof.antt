@@ -1,19 +1,19 @@
 -- `change::number_with` meets its contract.
-use mathlib.Core.Path.{_∙_}
+use native.Mathlib.Omega.{arith}
 use borrow.Author.Tests.{eq-eqb, ne-eqb}
 use Rattle.rectangle.specs.Refusals.{numberWith}
 use Rattle.change.proofs.number_with.Statement.{statement}
 use Rattle.change.proofs.number_with.Tie as tie
 
 row-of-requires : tie.Need-row-of-requires
-row-of-requires c κs = c .before .pre .0 (c .if1 .taken)
+row-of-requires c κs = c .before .pre (omega (arith, c .if1 .taken))
 
 returns : tie.Need-returns
 unfolding numberWith
 returns c = rw (eq-eqb _ 13 (c .before .if1 .taken)) (c .row-of .ensures)
 
 column-of-requires : tie.Need-column-of-requires
-column-of-requires c κs = c .before .before .pre .1 (c .if2 .taken)
+column-of-requires c κs = c .before .before .pre (omega (arith, c .if2 .taken))
 
 returns-2 : tie.Need-returns-2
 unfolding numberWith

@@ -1,15 +1,18 @@
 -- `change::refusal` meets its contract: each way out is one of the tests.
 use mathlib.Core.Path.{_≡_, sym, ap, ap₂, _∙_}
+use mathlib.Core.Bool.{Bool}
 use Prim.Native.Nat.{ℕ, _/_, _%_}
 use native.Mathlib.Omega.{arith}
 use borrow.Author.Needs.{needs}
 use borrow.Author.Tests.{eq-eqb, ne-eqb, lt-ltb, le-ltb}
 use Rattle.linecode.specs.declared.alone.Reading.{Reading}
-use Rattle.rectangle.specs.Refusals.{unless, acceptedAt, changeRefusal}
+use Rattle.rectangle.specs.Store.{rowGroup, columnGroup}
+use Rattle.rectangle.specs.Refusals.{unless, parityCorrect, parityRefusal, acceptedAt, changeRefusal}
 use Rattle.rectangle.proofs.Area.{area}
 use Rattle.rectangle.proofs.Alone.{faulty-alone, accepted-alone}
 use Rattle.rectangle.proofs.Refusing.{SizesPass, sizes-passed}
-use Rattle.change.proofs.Refusing.{some-columns, line-room, row-room, column-room, changeTests, change-sizes, change-next, parityThen, parity-refused, parity-passed}
+use Rattle.change.proofs.Refusing.{some-columns, line-room, row-room, column-room, changeTests, change-sizes, change-next}
+use Rattle.rectangle.proofs.Tests.{parity-refused, parity-passed}
 use Rattle.change.proofs.refusal.Statement.{statement}
 use Rattle.change.proofs.refusal.Tie as tie
 
@@ -49,60 +52,75 @@ mul-if3 c = omega (arith, area _ _ (fit (c .before) .sides))
 returns-3 : tie.Need-returns-3
 returns-3 c = rw (← next (c .before .before), eq-eqb _ 64 (c .before .if2 .left), le-ltb _ _ (c .if3 .taken))
 
--- past refusals 7 and 8 the definition tests the parity lines and then the line
+-- what the definition tests past refusals 7 and 8, of the call's arguments: the parity lines of the line's row and column, and the line
+abbrev ofRow : tie.Start → Bool
+ofRow start = let a = start .args in parityCorrect (rowGroup (a .columns) (a .row-table .now) (a .n / a .columns))
+
+abbrev ofColumn : tie.Start → Bool
+ofColumn start =
+    let a = start .args in parityCorrect (columnGroup (a .rows) (a .columns) (a .column-table .now) (a .n % a .columns))
+
+abbrev ofLine : tie.Start → ℕ
+ofLine start = let a = start .args in unless (acceptedAt (a .lines .now) (a .n)) 10 0
+
 left : (c : tie.Else3)
-    → let a = c .before .before .before .before .before .before .before .before .args in
-    parityThen (a .rows) (a .columns) (a .row-table .now) (a .column-table .now) (a .n / a .columns) (a .n % a .columns)
-    (unless (acceptedAt (a .lines .now) (a .n)) 10 0)
+    → let start = c .before .before .before .before .before .before .before .before in
+    let a = start .args in
+    parityRefusal (ofRow start) (ofColumn start) (ofLine start)
     ≡ changeRefusal (a .rows) (a .columns) (a .lines .now) (a .row-table .now) (a .column-table .now) (a .n) (a .payload .now)
 left c = rw (← next (c .before .before), eq-eqb _ 64 (c .before .if2 .left), lt-ltb _ _ (c .if3 .left))
 
+alone-at-requires : tie.Need-alone-at-requires
+alone-at-requires c κs = line-room _ _ _ _ _ (fit (c .before .before)) _ (c .if3 .left)
+
 row-of-requires : tie.Need-row-of-requires
-row-of-requires c κs = some-columns _ _ _ _ _ (fit (c .before .before)) _ (c .if3 .left)
+row-of-requires c κs = some-columns _ _ _ _ _ (fit (c .before .before .before)) _ (c .before .if3 .left)
 
 column-of-requires : tie.Need-column-of-requires
-column-of-requires c κs = some-columns _ _ _ _ _ (fit (c .before .before .before)) _ (c .before .if3 .left)
+column-of-requires c κs = some-columns _ _ _ _ _ (fit (c .before .before .before .before)) _ (c .before .before .if3 .left)
 
 parity-refusal-requires : tie.Need-parity-refusal-requires
 parity-refusal-requires c κs =
-    let p = fit (c .before .before .before .before) in
-    let inside = c .before .before .if3 .left in
+    let p = fit (c .before .before .before .before .before) in
+    let inside = c .before .before .before .if3 .left in
     (row-room _ _ _ _ _ p _ inside _ (c .before .row-of .ensures), column-room _ _ _ _ _ p _ inside _ (c .column-of .ensures))
 
--- what is tested of the two parity lines, by the line's row and column
 tested : (c : tie.After-parity-refusal)
-    → let a = c .before .before .before .before .before .before .before .before .before .before .before .args in
-    c .parity-refusal .result
-    ≡ parityThen (a .rows) (a .columns) (a .row-table .now) (a .column-table .now) (a .n / a .columns) (a .n % a .columns) 0
+    → let start = c .before .before .before .before .before .before .before .before .before .before .before .before in
+    c .parity-refusal .result ≡ parityRefusal (ofRow start) (ofColumn start) 0
 tested c =
-    let a = c .before .before .before .before .before .before .before .before .before .before .before .args in
+    let a = c .before .before .before .before .before .before .before .before .before .before .before .before .args in
     c .parity-refusal .ensures (a .rows) (a .columns)
-    ∙ ap₂ (λ (i j : ℕ). parityThen (a .rows) (a .columns) (a .row-table .now) (a .column-table .now) i j 0)
+    ∙ ap₂ (λ (i j : ℕ). parityRefusal (parityCorrect (rowGroup (a .columns) (a .row-table .now) i)) (parityCorrect (columnGroup (a .rows) (a .columns) (a .column-table .now) j)) 0)
     (c .before .before .row-of .ensures) (c .before .column-of .ensures)
 
-alone-at-requires : tie.Need-alone-at-requires
-alone-at-requires c κs = line-room _ _ _ _ _ (fit (c .before .before .before .before .before)) _ (c .before .before .before .if3 .left)
-
 returns-4 : tie.Need-returns-4
-returns-4 c = sym (sym (left (c .before .before .before .before .before)) ∙ parity-refused _ _ _ _ _ _ _ _ (tested (c .before .before)) (c .if4 .taken))
+returns-4 c =
+    let start = c .before .before .before .before .before .before .before .before .before .before .before .before .before in
+    sym (sym (left (c .before .before .before .before .before))
+    ∙ parity-refused (ofRow start) (ofColumn start) (ofLine start) _ (tested (c .before)) (c .if4 .taken))
 
 -- past refusals 13 and 14 the definition tests the line
 last : (c : tie.Else4)
-    → let a = c .before .before .before .before .before .before .before .before .before .before .before .before .before .args in
-    unless (acceptedAt (a .lines .now) (a .n)) 10 0
+    → let start = c .before .before .before .before .before .before .before .before .before .before .before .before .before in
+    let a = start .args in
+    ofLine start
     ≡ changeRefusal (a .rows) (a .columns) (a .lines .now) (a .row-table .now) (a .column-table .now) (a .n) (a .payload .now)
-last c = sym (parity-passed _ _ _ _ _ _ _ _ (tested (c .before .before)) (c .if4 .left)) ∙ left (c .before .before .before .before .before)
+last c =
+    let start = c .before .before .before .before .before .before .before .before .before .before .before .before .before in
+    sym (parity-passed (ofRow start) (ofColumn start) (ofLine start) _ (tested (c .before)) (c .if4 .left))
+    ∙ left (c .before .before .before .before .before)
 
 returns-5 : tie.Need-returns-5
 returns-5 c =
-    let read = c .before .before .before .alone-at in
+    let read = c .before .before .before .before .before .before .alone-at in
     let a = c .before .before .before .before .before .before .before .before .before .before .before .before .before .before .before .args in
     let mark = ap (λ (r : Reading). r .mark) (read .ensures) in
     rw (← last (c .before .before), faulty-alone (a .lines .now) (a .n) (read .result .mark) mark (c .if5 .taken))
 
 returns-6 : tie.Need-returns-6
 returns-6 c =
-    let read = c .before .before .before .alone-at in
+    let read = c .before .before .before .before .before .before .alone-at in
     let a = c .before .before .before .before .before .before .before .before .before .before .before .before .before .before .before .args in
     let mark = ap (λ (r : Reading). r .mark) (read .ensures) in
     rw (← last (c .before .before), accepted-alone (a .lines .now) (a .n) (read .result .mark) mark (c .if5 .left))
@@ -116,10 +134,10 @@ refusal-spec =
     returns-2
     mul-if3
     returns-3
+    alone-at-requires
     row-of-requires
     column-of-requires
     parity-refusal-requires
-    alone-at-requires
     returns-4
     returns-5
     returns-6)

@@ -7,12 +7,12 @@ use borrow.Author.Tests.{not-true, not-false}
 use Rattle.rectangle.specs.Store.{bytesAt}
 use Rattle.groups.specs.Lent.{allZero, numberOf}
 use Rattle.groups.proofs.Numbers.{which-number}
-use Rattle.groups.proofs.Checking.{Checked, checked-start, checked-next, checked-failed, checked-end}
+use Rattle.rectangle.proofs.First.{Passed, passed-none, passed-next, not-every, every-one}
 use Rattle.groups.proofs.all_agree.Statement.{statement}
 use Rattle.groups.proofs.all_agree.Tie as tie
 
 abbrev Inv-loop : tie.InvT-loop
-Inv-loop rows columns lacks groups k₀ k = (groups ≡ rows + columns) × Checked (λ j. allZero (bytesAt lacks j)) groups k
+Inv-loop rows columns lacks groups k₀ k = (groups ≡ rows + columns) × Passed (λ j. allZero (bytesAt lacks j)) groups k
 
 abbrev μ-loop : tie.MeasureT-loop
 μ-loop rows columns lacks groups k₀ k = groups - k
@@ -21,7 +21,7 @@ add-groups : tie.Need-add-groups Inv-loop μ-loop
 add-groups c = search needs
 
 loop-holds : tie.Need-loop-holds Inv-loop μ-loop
-loop-holds c = (omega arith, checked-start _ _)
+loop-holds c = (omega arith, passed-none _ _)
 
 nth-requires : tie.Need-nth-requires Inv-loop μ-loop
 nth-requires c κs = search needs
@@ -48,7 +48,7 @@ is-zero-requires c κs = search needs
 
 returns : tie.Need-returns Inv-loop μ-loop
 returns c =
-    checked-failed _ _ _ (c .before .before .before .before .before .loop .inv .1) (c .before .before .before .before .loop-test .taken)
+    not-every _ _ _ (c .before .before .before .before .before .loop .inv .1) (c .before .before .before .before .loop-test .taken)
     (sym (looked (c .before)) ∙ not-true _ (c .if1 .taken))
 
 add-k : tie.Need-add-k Inv-loop μ-loop
@@ -60,12 +60,12 @@ loop-less c = omega arith
 loop-again : tie.Need-loop-again Inv-loop μ-loop
 loop-again c = (
   refl,
-  checked-next _ _ _ (c .before .before .before .before .before .loop .inv .1) (c .before .before .before .before .loop-test .taken)
+  passed-next _ _ _ (c .before .before .before .before .before .loop .inv .1) (c .before .before .before .before .loop-test .taken)
       (sym (looked (c .before)) ∙ not-false _ (c .if1 .left)),
 )
 
 returns-2 : tie.Need-returns-2 Inv-loop μ-loop
-returns-2 c = checked-end _ _ _ (c .before .loop .inv .1) (c .loop-test .left)
+returns-2 c = every-one _ _ _ (c .before .loop .inv .1) (c .loop-test .left)
 
 pub all-agree-spec : {M : Type 1} → statement M
 all-agree-spec =

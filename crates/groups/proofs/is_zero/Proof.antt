@@ -5,25 +5,25 @@ use borrow.Author.Tests.{eq-eqb, ne-eqb}
 use lib.Dec.{eqb}
 use lib.ListN.{getD}
 use Rattle.groups.specs.Lent.{allZero}
-use Rattle.groups.proofs.Checking.{Checked, checked-start, checked-next, checked-failed, checked-end}
+use Rattle.rectangle.proofs.First.{Passed, passed-none, passed-next, not-every, every-one}
 use Rattle.groups.proofs.is_zero.Statement.{statement}
 use Rattle.groups.proofs.is_zero.Tie as tie
 
 abbrev Inv-loop : tie.InvT-loop
-Inv-loop line i₀ i = Checked (λ k. eqb (getD line k 0) 0) 70 i
+Inv-loop line i₀ i = Passed (λ k. eqb (getD line k 0) 0) 70 i
 
 abbrev μ-loop : tie.MeasureT-loop
 μ-loop line i₀ i = 70 - i
 
 loop-holds : tie.Need-loop-holds Inv-loop μ-loop
-loop-holds c = checked-start _ _
+loop-holds c = passed-none _ _
 
 array-read-if1 : tie.Need-array-read-if1 Inv-loop μ-loop
 array-read-if1 c = omega arith
 
 returns : tie.Need-returns Inv-loop μ-loop
 unfolding allZero
-returns c = checked-failed _ _ _ (c .before .before .loop .inv) (c .before .loop-test .taken) (ne-eqb _ _ (c .if1 .taken))
+returns c = not-every _ _ _ (c .before .before .loop .inv) (c .before .loop-test .taken) (ne-eqb _ _ (c .if1 .taken))
 
 add-i : tie.Need-add-i Inv-loop μ-loop
 add-i c = omega arith
@@ -32,11 +32,11 @@ loop-less : tie.Need-loop-less Inv-loop μ-loop
 loop-less c = omega arith
 
 loop-again : tie.Need-loop-again Inv-loop μ-loop
-loop-again c = checked-next _ _ _ (c .before .before .loop .inv) (c .before .loop-test .taken) (eq-eqb _ _ (c .if1 .left))
+loop-again c = passed-next _ _ _ (c .before .before .loop .inv) (c .before .loop-test .taken) (eq-eqb _ _ (c .if1 .left))
 
 returns-2 : tie.Need-returns-2 Inv-loop μ-loop
 unfolding allZero
-returns-2 c = checked-end _ _ _ (c .before .loop .inv) (c .loop-test .left)
+returns-2 c = every-one _ _ _ (c .before .loop .inv) (c .loop-test .left)
 
 pub is-zero-spec : {M : Type 1} → statement M
 is-zero-spec =

@@ -1,5 +1,4 @@
 -- `repair::repair` meets its contract.
-use native.Mathlib.Omega.{arith}
 use borrow.Author.Needs.{needs}
 use mathlib.Core.Path.{sym, _∙_}
 use Rattle.repair.specs.Lent.{parityOf}
@@ -15,9 +14,10 @@ refusal-requires : tie.Need-refusal-requires
 refusal-requires c κs = c .before .before .before .lent .ensures
 
 number-with-requires : tie.Need-number-with-requires
-number-with-requires c κs =
-    let sizes = numbered-tables _ _ _ _ _ _ _ _ (c .before .before .refusal .ensures) in
-    (c .before .before .before .before .before .before .lent .ensures, (λ e. sizes (omega arith) .rowBytes, λ e. sizes (omega arith) .columnBytes))
+number-with-requires c κs = (
+  c .before .before .before .before .before .before .lent .ensures,
+  λ more. let sizes = numbered-tables _ _ _ _ _ _ _ _ (c .before .before .refusal .ensures) more in (sizes .rowBytes, sizes .columnBytes),
+)
 
 same-length : tie.Need-same-length
 same-length c = search needs

@@ -1,5 +1,5 @@
 -- `repair::parity::number_with` meets its contract.
-use mathlib.Core.Path.{_∙_}
+use native.Mathlib.Omega.{arith}
 use borrow.Author.Tests.{eq-eqb, ne-eqb}
 use Rattle.rectangle.specs.Refusals.{numberWith}
 use Rattle.rectangle.specs.Repair.{repairNumber}
@@ -7,14 +7,14 @@ use Rattle.repair.proofs.parity.number_with.Statement.{statement}
 use Rattle.repair.proofs.parity.number_with.Tie as tie
 
 first-bad-row-requires : tie.Need-first-bad-row-requires
-first-bad-row-requires c κs = (c .before .before .before .pre .0, c .before .before .before .pre .1 .0 (c .if1 .taken))
+first-bad-row-requires c κs = (c .before .before .before .pre .0, c .before .before .before .pre .1 (omega (arith, c .if1 .taken)) .0)
 
 returns : tie.Need-returns
 unfolding repairNumber numberWith
 returns c = rw (eq-eqb _ 13 (c .before .if1 .taken)) (c .first-bad-row .ensures _)
 
 first-bad-column-requires : tie.Need-first-bad-column-requires
-first-bad-column-requires c κs = (c .before .before .before .before .pre .0, c .before .before .before .before .pre .1 .1 (c .if2 .taken))
+first-bad-column-requires c κs = (c .before .before .before .before .pre .0, c .before .before .before .before .pre .1 (omega (arith, c .if2 .taken)) .1)
 
 returns-2 : tie.Need-returns-2
 unfolding repairNumber numberWith
