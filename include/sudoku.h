@@ -88,7 +88,7 @@ extern "C" {
 enum sudoku_answer {
     SUDOKU_DONE = 0,           /* done */
     SUDOKU_SIDES = 2,          /* rows or columns lie outside 2 to 512 */
-    SUDOKU_LINES = 5,          /* the lines handed in are not rows * columns * 70 bytes, or a single line to be read is not 70 */
+    SUDOKU_LINES = 5,          /* the lines handed in are not rows * columns * 70 bytes, or a single line is not 70 bytes */
     SUDOKU_TABLE = 6,          /* a table, read or written, is not 70 bytes for each of its rows or columns */
     SUDOKU_BUFFER = 7,         /* another buffer has another length: 64 for data, 70 for a line written, as each function says */
     SUDOKU_NUMBER = 8,         /* the line number is not below rows * columns */
@@ -96,7 +96,7 @@ enum sudoku_answer {
     SUDOKU_COLUMN_PARITY = 14, /* a column's parity line is not a correct line (its spare bits do not count) */
     SUDOKU_FAULTY = 10,        /* a line to be read alone, changed or summed into tables is faulty */
     SUDOKU_LEFT = 11,          /* repair: faulty lines are left after the last pass */
-    SUDOKU_DIFFERS = 12        /* repair: no line is faulty, but some parity line differs from the repaired lines': trust no line */
+    SUDOKU_DIFFERS = 12        /* repair: no line is faulty, but a parity line differs from that of the repaired lines: trust no line */
 };
 
 /* Marks: what became of a line. Reading alone gives 0, 1 or 4. */

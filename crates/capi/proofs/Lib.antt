@@ -1,3 +1,3 @@
--- What the proofs of the C interface share.
+-- Laws of one line at the C interface: what the proofs share, and the answers.
 pub mod Single
 pub mod Answers

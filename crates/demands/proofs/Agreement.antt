@@ -1,4 +1,4 @@
--- A rectangle that agrees with its tables: refusal 9 accepts them, and tables made anew have their places. So with one written.
+-- A rectangle that agrees with its tables: refusals 13 and 14 accept them, and tables made anew have their places. So with one written.
 use mathlib.Core.Path.{_≡_, refl, sym, ap, ap₂, _∙_}
 use mathlib.Core.Logic.{_⊎_, inl, inr}
 use mathlib.Core.Bool.{true}
@@ -8,8 +8,8 @@ use native.Mathlib.Omega.{arith}
 use lib.ListN.{length}
 use Rattle.linecode.specs.Places.{lineBytes}
 use Rattle.scheme.specs.Layer.{Promises}
-use Rattle.rectangle.specs.Store.{lineLayer, linesIn, rowGroup, columnGroup, groups}
-use Rattle.rectangle.specs.Refusals.{every, tablesFit, parityCorrect, tablesRefusal}
+use Rattle.rectangle.specs.Store.{lineLayer, linesIn, rowGroup, columnGroup}
+use Rattle.rectangle.specs.Refusals.{tablesFit, parityCorrect, tablesRefusal}
 use Rattle.rectangle.specs.Tables.{rowParity, columnParity, rowTableOf, columnTableOf, TablesMade}
 use Rattle.demands.specs.Demands.{Rectangle, count, tablesFor, Written, Agrees, TablesOfTheCode, TablesAreOfTheCode}
 use Rattle.rectangle.proofs.Buffer.{holds-length, length-holds, equal-linesIn, length-table-bytes}

@@ -17,7 +17,7 @@ use Rattle.scheme.specs.Demand3.{_∈_, Rising}
 use Rattle.scheme.proofs.Lists.{selected}
 use Rattle.scheme.proofs.Sums.{sum-ext, sum-split}
 use Rattle.rectangle.specs.Store.{lineLayer, placesAt, putLine, aloneAt, row, column}
-use Rattle.rectangle.specs.Refusals.{holds, acceptedAt, changeRefusal}
+use Rattle.rectangle.specs.Refusals.{acceptedAt, changeRefusal}
 use Rattle.rectangle.specs.Tables.{rowParity, columnParity}
 use Rattle.rectangle.specs.Change.{newLine, difference, addTo, LineChanged}
 use Rattle.demands.specs.Demands.{Rectangle, count, changeIn, Agrees, changed, ChangeEqualsTablesAnew}

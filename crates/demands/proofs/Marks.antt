@@ -11,7 +11,7 @@ use Rattle.gf2.specs.Word.{Word}
 use Rattle.linecode.specs.Places.{linePlaces, lineBytes, places}
 use Rattle.scheme.specs.Layer.{Cell, readLine}
 use Rattle.scheme.specs.Visit.{Group, State, cellAt}
-use Rattle.scheme.specs.Repair.{Repaired, repair, linesOf, marksOf}
+use Rattle.scheme.specs.Repair.{Repaired, linesOf, marksOf}
 use Rattle.scheme.specs.Marks as Scheme
 use Rattle.scheme.specs.Readings.{SameRepair}
 use Rattle.scheme.proofs.Marking.{repair-marks-tell}

@@ -3,20 +3,20 @@ use mathlib.Core.Path.{_≡_, refl, sym, ap, _∙_}
 use mathlib.Core.Logic.{_⊎_, _↔_, inl, inr}
 use mathlib.Core.Bool.{Bool, true, false, _&&_, true≢false}
 use mathlib.Core.List.{List, map}
-use Prim.Native.Nat.{ℕ, _*_, _/_, _%_, _<_}
+use Prim.Native.Nat.{ℕ, _/_, _%_, _<_}
 use native.Mathlib.Omega.{arith}
-use borrow.Author.Tests.{ne-eqb}
+use borrow.Author.Tests.{eq-eqb, ne-eqb, lt-ltb}
 use lib.Dec.{eqb, ltb}
 use lib.ListN.{length}
 use Rattle.linecode.specs.Places.{dataBytes}
 use Rattle.linecode.specs.Code.{upFrom}
 use Rattle.rectangle.specs.Store.{rowGroup, columnGroup, rowGroups, columnGroups}
-use Rattle.rectangle.specs.Refusals.{unless, every, firstFailing, holds, parityCorrect, acceptedAt, tablesAnswers, changeRefusal, changeAnswers, repairRefusal, repairAnswers, numberWith}
+use Rattle.rectangle.specs.Refusals.{unless, every, firstFailing, holds, parityCorrect, parityRefusal, acceptedAt, tablesAnswers, changeRefusal, changeAnswers, repairRefusal, repairAnswers, numberWith}
 use Rattle.rectangle.specs.Repair.{StoreRepaired, handsOver, handedOver, repairNumber}
 use Rattle.demands.specs.Demands.{Rectangle, count, tablesFor, changeIn, repairOf}
-use Rattle.demands.specs.Reload.{RowCorrect, ColumnCorrect, FirstBad, RepairNames, RepairNamesFirstBad, ChangeNames, ChangeNamesOwn, AnswersGiven, NineNotGiven}
+use Rattle.demands.specs.Reload.{RowCorrect, ColumnCorrect, FirstBad, Fits, BadRefused, RepairNames, RepairNamesFirstBad, ChangeNames, ChangeNamesOwn, AnswersGiven, NineNotGiven}
 use Rattle.rectangle.proofs.LineLayer.{parity-tests}
-use Rattle.rectangle.proofs.Tests.{image-every, passed, failed, not-among}
+use Rattle.rectangle.proofs.Tests.{every-image, image-every, image-fails, passed, row-fails, column-fails, both-pass, not-among}
 use Rattle.rectangle.proofs.Refusing.{sizes-past}
 use Rattle.rectangle.proofs.First.{first-of, all-pass, inside}
 use Rattle.rectangle.proofs.Runs.{zero-or-not, answer-hands-over, change-runs, change-refused, tables-answers, change-answers, repair-answers}
@@ -39,22 +39,6 @@ module _ {A : Type 0} (test : A → Bool) (f : ℕ → A) (Good : ℕ → Type 0
   all-good : every test (map f (upFrom 0 n)) ≡ true → (k : ℕ) → k < n → Good k
   all-good e k h = tells k .0 (image-every test f n e k h)
 
--- ---- 13, then 14, then what is tested next
-module _ (rowsPass columnsPass : Bool) (next : ℕ) where
-  abbrev tests : ℕ
-  tests = unless rowsPass 13 (unless columnsPass 14 next)
-
-  row-fails : (next ≡ 13 → ⊥) → tests ≡ 13 → rowsPass ≡ false
-  row-fails other = failed rowsPass _ (λ e. other (passed columnsPass 14 next (λ z. omega arith) e .1))
-
-  column-fails : (next ≡ 14 → ⊥) → tests ≡ 14 → (rowsPass ≡ true) × (columnsPass ≡ false)
-  column-fails other e =
-      let row = passed rowsPass 13 _ (λ z. omega arith) e in (row .0, failed columnsPass next other (row .1))
-
-  both-pass : tests ≡ 0 → (rowsPass ≡ true) × (columnsPass ≡ true)
-  both-pass e =
-      let row = passed rowsPass 13 _ (λ z. omega arith) e in (row .0, passed columnsPass 14 next (λ z. omega arith) (row .1) .0)
-
 -- with another answer the number is 0
 no-number : (a i j : ℕ) → (a ≡ 13 → ⊥) → (a ≡ 14 → ⊥) → numberWith a i j ≡ 0
 unfolding numberWith
@@ -76,13 +60,13 @@ module _ (r : Rectangle) where
     columnsPass = every parityCorrect (columnGroups (r .rows) (r .columns) (r .columnTable))
 
     -- an answer that is not 2 to 7 comes past the sizes
-    parity-decides : (a : ℕ) → ((k : ℕ) → k < 8 → 0 < k → k ≡ a → ⊥) → refusal r out marks ≡ a → tests rowsPass columnsPass 0 ≡ a
+    parity-decides : (a : ℕ) → ((k : ℕ) → k < 8 → 0 < k → k ≡ a → ⊥) → refusal r out marks ≡ a → parityRefusal rowsPass columnsPass 0 ≡ a
     unfolding refusal repairRefusal
     parity-decides a other e =
         let six = sizes-past (r .rows) (r .columns) (r .lines) (r .rowTable) (r .columnTable) a _ (λ k l h. other k (omega arith) (omega arith)) e in
         passed (holds (count r) out && eqb (length marks) (count r)) 7 _ (other 7 (omega arith) (omega arith)) (six .1) .1
 
-    -- what is handed over comes with no number
+    -- an answer that hands nothing over is the refusal's, with the refusal's number
     turned : (a : ℕ) → handsOver a ≡ false → repairOf r out marks .answer ≡ a
         → (refusal r out marks ≡ a) × (repairOf r out marks .number ≡ repairNumber a (r .rows) (r .columns) (r .rowTable) (r .columnTable))
     unfolding handedOver
@@ -154,7 +138,7 @@ module _ (r : Rectangle) where
     last-is : {a : ℕ} → 10 < a → last ≡ a → ⊥
     last-is more e = omega (arith, passed (acceptedAt (r .lines) n) 10 0 (λ z. omega arith) e .1)
 
-    own-decide : (a : ℕ) → ((k : ℕ) → k < 9 → 0 < k → k ≡ a → ⊥) → turnedBack ≡ a → tests rowPasses columnPasses last ≡ a
+    own-decide : (a : ℕ) → ((k : ℕ) → k < 9 → 0 < k → k ≡ a → ⊥) → turnedBack ≡ a → parityRefusal rowPasses columnPasses last ≡ a
     unfolding turnedBack changeRefusal
     own-decide a other e =
         let six = sizes-past (r .rows) (r .columns) (r .lines) (r .rowTable) (r .columnTable) a _ (λ k l h. other k (omega arith) (omega arith)) e in
@@ -176,8 +160,8 @@ module _ (r : Rectangle) where
         record {
           row = λ e.
               let is = number-is e in
-              (is, rw is (bad-row (row-fails rowPasses columnPasses last (last-is (omega arith)) (own-decide 13 (λ k l h z. omega arith) (sym (changed-so .0) ∙ e)))));
-          column = λ e. let is = number-is e in (is, rw is (bad-column (column-bad e .1)));
+              (is, rw is (row-bad (row-fails rowPasses columnPasses last (last-is (omega arith)) (own-decide 13 (λ k l h z. omega arith) (sym (changed-so .0) ∙ e)))));
+          column = λ e. let is = number-is e in (is, rw is (own-column-bad (column-bad e .1)));
           rowFirst = λ e. row-tells _ .0 (column-bad e .0);
           otherwise = λ d e. changed-so .1 ∙ no-number _ _ _ (λ z. d (changed-so .0 ∙ z)) (λ z. e (changed-so .0 ∙ z));
           rowCorrect = λ e. row-tells _ .0 (none-bad e .0);
@@ -187,17 +171,62 @@ module _ (r : Rectangle) where
         number-is : {a : ℕ} → changeIn r n payload .answer ≡ a → changeIn r n payload .number ≡ numberWith a (n / r .columns) (n % r .columns)
         number-is e = changed-so .1 ∙ ap (λ (b : ℕ). numberWith b (n / r .columns) (n % r .columns)) (sym (changed-so .0) ∙ e)
 
-        bad-row : rowPasses ≡ false → RowCorrect r (n / r .columns) → ⊥
-        bad-row e g = true≢false (sym (row-tells _ .1 g) ∙ e)
+        row-bad : rowPasses ≡ false → RowCorrect r (n / r .columns) → ⊥
+        row-bad e g = true≢false (sym (row-tells _ .1 g) ∙ e)
 
-        bad-column : columnPasses ≡ false → ColumnCorrect r (n % r .columns) → ⊥
-        bad-column e g = true≢false (sym (column-tells _ .1 g) ∙ e)
+        own-column-bad : columnPasses ≡ false → ColumnCorrect r (n % r .columns) → ⊥
+        own-column-bad e g = true≢false (sym (column-tells _ .1 g) ∙ e)
 
         column-bad : changeIn r n payload .answer ≡ 14 → (rowPasses ≡ true) × (columnPasses ≡ false)
         column-bad e = column-fails rowPasses columnPasses last (last-is (omega arith)) (own-decide 14 (λ k l h z. omega arith) (sym (changed-so .0) ∙ e))
 
         none-bad : changeIn r n payload .answer ≡ 0 → (rowPasses ≡ true) × (columnPasses ≡ true)
         none-bad e = both-pass rowPasses columnPasses last (own-decide 0 (λ k l h z. omega arith) (sym (changed-so .0) ∙ e))
+
+-- ---- where nothing before them is refused, a bad parity line is answered with them
+fails : (b : Bool) {Good : Type 0} → (b ≡ true) ↔ Good → (Good → ⊥) → b ≡ false
+fails true tells d = absurd (d (tells .0 refl))
+fails false tells d = refl
+
+module _ (r : Rectangle) (fits : Fits r) where
+  module _ (out marks : List ℕ) (outBytes : holds (count r) out ≡ true) (markBytes : length marks ≡ count r) where
+    repair-decided : refusal r out marks ≡ parityRefusal (rowsPass r out marks) (columnsPass r out marks) 0
+    unfolding refusal repairRefusal
+    repair-decided = rw (fits .sides, fits .lineBytes, fits .tableBytes, outBytes, eq-eqb (length marks) (count r) markBytes)
+
+    answers-so : (a : ℕ) → 0 < a → parityRefusal (rowsPass r out marks) (columnsPass r out marks) 0 ≡ a → repairOf r out marks .answer ≡ a
+    answers-so a some e =
+        let is = repair-decided ∙ e in
+        ap (λ (s : StoreRepaired). s .answer) (refused r out marks (λ z. omega arith)) ∙ is
+
+    bad-row : (k : ℕ) → k < r .rows → (RowCorrect r k → ⊥) → repairOf r out marks .answer ≡ 13
+    bad-row k h d =
+        answers-so 13 (omega arith)
+        (rw (image-fails parityCorrect (rowGroup (r .columns) (r .rowTable)) (r .rows) k h (fails _ (row-tells r k) d)))
+
+    bad-column : ((k : ℕ) → k < r .rows → RowCorrect r k) → (k : ℕ) → k < r .columns → (ColumnCorrect r k → ⊥)
+        → repairOf r out marks .answer ≡ 14
+    bad-column good k h d =
+        answers-so 14 (omega arith)
+        (rw (
+          every-image parityCorrect (rowGroup (r .columns) (r .rowTable)) (r .rows) (λ j i. row-tells r j .1 (good j i)),
+          image-fails parityCorrect (columnGroup (r .rows) (r .columns) (r .columnTable)) (r .columns) k h (fails _ (column-tells r k) d),
+        ))
+
+  module _ (n : ℕ) (payload : List ℕ) (payloadBytes : length payload ≡ dataBytes) (within : n < count r) where
+    change-decided : turnedBack r n payload ≡ parityRefusal (rowPasses r n payload) (columnPasses r n payload) (last r n payload)
+    unfolding turnedBack changeRefusal
+    change-decided =
+        rw (fits .sides, fits .lineBytes, fits .tableBytes, eq-eqb (length payload) dataBytes payloadBytes, lt-ltb n (count r) within)
+
+    own-row : (RowCorrect r (n / r .columns) → ⊥) → changeIn r n payload .answer ≡ 13
+    own-row d = changed-so r n payload .0 ∙ change-decided ∙ rw (fails _ (row-tells r _) d)
+
+    own-column : RowCorrect r (n / r .columns) → (ColumnCorrect r (n % r .columns) → ⊥) → changeIn r n payload .answer ≡ 14
+    own-column good d = changed-so r n payload .0 ∙ change-decided ∙ rw (row-tells r _ .1 good, fails _ (column-tells r _) d)
+
+pub badRefused : BadRefused
+badRefused = record { repairRow = bad-row; repairColumn = bad-column; changeRow = own-row; changeColumn = own-column }
 
 pub repairNamesFirstBad : RepairNamesFirstBad
 repairNamesFirstBad = names

@@ -50,7 +50,8 @@ repairBefore r out marks =
       marks = marks;
     })
 
--- the same answer, number, passes and bytes of lines; as many marks, each the same, or 0 or 1 then and now, so that marks 2, 3 and 4 are as before
+-- the same answer, passes, number and bytes of lines; as many marks, each the same, or 0 or 1 then and now, so that marks 2, 3 and 4 are
+-- as before
 pub record SameButMarks (before now : StoreRepaired) : Type 0 where
   pub answer : before .answer ≡ now .answer
   pub number : before .number ≡ now .number

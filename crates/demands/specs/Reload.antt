@@ -2,14 +2,16 @@
 use mathlib.Core.Path.{_≡_}
 use mathlib.Core.Bool.{true}
 use mathlib.Core.List.{List}
-use Prim.Native.Nat.{ℕ, _/_, _%_, _≤_, _<_}
+use Prim.Native.Nat.{ℕ, _/_, _%_, _<_}
+use lib.ListN.{length}
+use Rattle.linecode.specs.Places.{dataBytes}
 use Rattle.scheme.specs.Layer.{parityAddress}
 use Rattle.scheme.specs.Demand3.{_∈_}
 use Rattle.rectangle.specs.Store.{lineLayer, placesAt, row, column}
-use Rattle.rectangle.specs.Refusals.{tablesAnswers, changeAnswers, repairAnswers}
+use Rattle.rectangle.specs.Refusals.{sidesFit, holds, tablesFit, tablesAnswers, changeAnswers, repairAnswers}
 use Rattle.rectangle.specs.Change.{LineChanged}
 use Rattle.rectangle.specs.Repair.{StoreRepaired, handsOver}
-use Rattle.demands.specs.Demands.{Rectangle, tablesFor, changeIn, repairOf}
+use Rattle.demands.specs.Demands.{Rectangle, count, tablesFor, changeIn, repairOf}
 
 -- ---- "13, a bad row parity line, and 14, a bad column parity line": those of row k and of column k are correct lines
 abbrev pub RowCorrect : Rectangle → ℕ → Type 0
@@ -53,6 +55,24 @@ pub record ChangeNames (r : Rectangle) (n : ℕ) (given : LineChanged) : Type 0 
 
 abbrev pub ChangeNamesOwn : Type 0
 ChangeNamesOwn = (r : Rectangle) (n : ℕ) (payload : List ℕ) → ChangeNames r n (changeIn r n payload)
+
+-- ---- 13 and 14 "stand in 9's place": where nothing before them is refused, a bad parity line is answered with them
+-- the sides, the lines and the tables fit
+pub record Fits (r : Rectangle) : Type 0 where
+  pub sides : sidesFit (r .rows) (r .columns) ≡ true
+  pub lineBytes : holds (count r) (r .lines) ≡ true
+  pub tableBytes : tablesFit (r .rows) (r .columns) (r .rowTable) (r .columnTable) ≡ true
+
+pub record BadRefused : Type 0 where
+  pub repairRow : (r : Rectangle) → Fits r → (out marks : List ℕ) → holds (count r) out ≡ true → length marks ≡ count r
+      → (k : ℕ) → k < r .rows → (RowCorrect r k → ⊥) → repairOf r out marks .answer ≡ 13
+  pub repairColumn : (r : Rectangle) → Fits r → (out marks : List ℕ) → holds (count r) out ≡ true → length marks ≡ count r
+      → ((k : ℕ) → k < r .rows → RowCorrect r k)
+      → (k : ℕ) → k < r .columns → (ColumnCorrect r k → ⊥) → repairOf r out marks .answer ≡ 14
+  pub changeRow : (r : Rectangle) → Fits r → (n : ℕ) (payload : List ℕ) → length payload ≡ dataBytes → n < count r
+      → (RowCorrect r (n / r .columns) → ⊥) → changeIn r n payload .answer ≡ 13
+  pub changeColumn : (r : Rectangle) → Fits r → (n : ℕ) (payload : List ℕ) → length payload ≡ dataBytes → n < count r
+      → RowCorrect r (n / r .columns) → (ColumnCorrect r (n % r .columns) → ⊥) → changeIn r n payload .answer ≡ 14
 
 -- ---- "9 is no longer given.": each entry point gives its own answers only
 pub record AnswersGiven : Type 0 where

@@ -1,4 +1,4 @@
--- Checks that are turned back write nothing and return zeros; those that are not count every line.
+-- Checks that are turned back write nothing and return zeros; those that are not count every line; 9 is given by none.
 use mathlib.Core.Path.{_≡_, refl, sym, _∙_, subst}
 use mathlib.Core.Logic.{_⊎_, inl, inr}
 use mathlib.Core.Bool.{true, false, not, true≢false}
@@ -19,7 +19,7 @@ use Rattle.rectangle.specs.Repair.{StoreRepaired, repaired, handsOver, handedOv
 use Rattle.rectangle.proofs.Buffer.{length-linesIn}
 use Rattle.rectangle.proofs.LineLayer.{kept}
 use Rattle.rectangle.proofs.Runs.{zero-or-not, answer-hands-over, refusal-hands-nothing, repair-runs, repair-refused, repair-answers}
-use Rattle.rectangle.proofs.Tests.{every-at, refusal-in, not-among, either-way}
+use Rattle.rectangle.proofs.Tests.{every-at, not-among, either-way}
 use Rattle.storefile.specs.Header.{headerBytes}
 use Rattle.storefile.specs.Opening.{rowsIn, columnsIn, sidesWithin, contentsFit, openRefusal, opened}
 use Rattle.report.specs.Marks.{countsOf}
@@ -28,24 +28,13 @@ use Rattle.report.specs.Check.{StoreChecked, refusedWith, repairOpened, 
 use Rattle.report.specs.Promises.{total, CheckCountsLines, CheckRefusalsWriteNothing, NineNotGiven}
 use Rattle.storefile.specs.declared.opening.Opened.{Opened}
 use Rattle.report.specs.declared.report.Checked.{Checked}
+use Rattle.storefile.proofs.Answers as Opening
+use Rattle.storefile.proofs.Answers.{openAnswers, opening-answers}
 use Rattle.storefile.proofs.Openings.{Outcome, accepted, refused, outcome}
 use Rattle.report.proofs.Checking.{check-refused, check-turned-back, check-counted}
 use Rattle.report.proofs.Adding.{counts-add-up}
 
--- ---- what opening answers
-abbrev openAnswers : List ℕ
-openAnswers = 0 ∷ 1 ∷ 2 ∷ 3 ∷ 4 ∷ []
-
-opening-answers : (limit : ℕ) (file : List ℕ) → openRefusal limit file ∈ openAnswers
-unfolding openRefusal
-opening-answers limit file =
-    refusal-in
-    ((leb headerBytes (length file), 1)
-    ∷ (sidesFit (rowsIn file) (columnsIn file), 2)
-    ∷ (sidesWithin limit (rowsIn file) (columnsIn file), 3)
-    ∷ (contentsFit file (rowsIn file) (columnsIn file), 4)
-    ∷ [])
-
+-- ---- which answers hand over
 opening-refuses : (n : ℕ) → n ∈ openAnswers → (n ≡ 0 → ⊥) → handsOver n ≡ false
 unfolding handsOver
 opening-refuses n (inl z) d = absurd (d z)
@@ -139,23 +128,17 @@ check-refusals-write-nothing limit file out marks h = go (checks limit file out 
 
 -- ---- request Q-2
 pub nine-not-given : NineNotGiven
-unfolding opened checkStore counted refusedWith repairOpened writeReport
+unfolding checkStore counted refusedWith repairOpened writeReport
 nine-not-given =
     record {
-      opening = opening;
       check = λ limit file out marks.
           either-way (λ (s : StoreChecked). s .checked .answer ≡ 9 → ⊥) (eqb (opened limit file .answer) 0) _ _
           (either-way (λ (c : Checked). c .answer ≡ 9 → ⊥) (handsOver _) _ _ (repair-not _ _ _ _ _ out marks) (repair-not _ _ _ _ _ out marks))
-          (opening limit file);
+          (Opening.nine-not-given .opening limit file);
       report = λ c out. either-way (λ (w : ReportWritten). w .answer ≡ 9 → ⊥) (eqb (length out) reportBytes) _ _
           (λ (e : _≡_ {A = ℕ} 0 9). omega arith) (λ (e : _≡_ {A = ℕ} 7 9). omega arith);
     }
   where
-    opening : (limit : ℕ) (file : List ℕ) → opened limit file .answer ≡ 9 → ⊥
-    opening limit file =
-        either-way (λ (o : Opened). o .answer ≡ 9 → ⊥) (eqb (openRefusal limit file) 0) _ _ (λ (e : _≡_ {A = ℕ} 0 9). omega arith)
-        (not-among 9 openAnswers refl (opening-answers limit file))
-
     repair-not : (rows columns : ℕ) (lines rowTable columnTable out marks : List ℕ)
         → repairStore rows columns lines rowTable columnTable out marks .answer ≡ 9 → ⊥
     repair-not rows columns lines rowTable columnTable out marks =

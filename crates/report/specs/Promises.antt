@@ -6,7 +6,7 @@ use Prim.Native.Nat.{ℕ, _+_, _-_, _*_, _≤_, _<_}
 use lib.ListN.{length, take, getD}
 use Rattle.rectangle.specs.Repair.{handsOver}
 use Rattle.storefile.specs.Header.{headerBytes}
-use Rattle.storefile.specs.Opening.{opened, bytesNeeded}
+use Rattle.storefile.specs.Opening.{bytesNeeded}
 use Rattle.report.specs.Marks.{countsOf}
 use Rattle.report.specs.Report.{decimal, writeReport}
 use Rattle.report.specs.Check.{refusedWith, checkStore}
@@ -42,9 +42,8 @@ CheckRefusalsWriteNothing =
     handsOver (r .checked .answer) ≡ false
     → (r .checked ≡ refusedWith (r .checked .answer)) × (r .lines ≡ out) × (r .marks ≡ marks)
 
--- ---- request Q-2: "9 is no longer given.", neither by opening a file, nor by a check, nor by writing the report
+-- ---- request Q-2: "9 is no longer given.", neither by a check nor by writing the report
 pub record NineNotGiven : Type 0 where
-  pub opening : (limit : ℕ) (file : List ℕ) → opened limit file .answer ≡ 9 → ⊥
   pub check : (limit : ℕ) (file out marks : List ℕ) → checkStore limit file out marks .checked .answer ≡ 9 → ⊥
   pub report : (c : Checked) (out : List ℕ) → writeReport c out .answer ≡ 9 → ⊥
 

@@ -108,7 +108,7 @@ fn put_above(out: &mut [u8], c: Checked) -> usize
     put_line(out, passes, b"passes", c.passes)
 }
 
-// The report, put from the buffer's start on: for answers 1 to 10 only its last line.
+// The report, put from the buffer's start on: where nothing is handed over (any answer but 0, 11 and 12) only its last line.
 pub fn report(c: Checked, out: &mut [u8]) -> Reported
     ensures { λ r. ⌜ record { answer = r .answer; size = r .size; out = now (out .exit) } ≡ writeReport c (now (out .entry)) ⌝ }
 {

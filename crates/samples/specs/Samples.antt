@@ -1,6 +1,6 @@
 -- Document 01, "Sample damage": the starred samples in one table, each row a claim that the definitions decide; the mark of place 543 is
 -- request Q-1's. And a table of other cases.
-use mathlib.Core.Bool.{Bool, true, false, _&&_}
+use mathlib.Core.Bool.{Bool, true, false, _&&_, _||_}
 use mathlib.Core.List.{List, [], _∷_, _++_}
 use Prim.Native.Nat.{ℕ, _*_}
 use lib.Dec.{eqb}
@@ -29,7 +29,7 @@ pub data Sample : Type 0 where
   -- these are handed over as found with these marks, passes and this answer
   leaves : ℕ → List (List ℕ) → List ℕ → ℕ → ℕ → Sample
   -- four zero lines, two by two, with these parity lines of the rows and of the columns: repair writes nothing, and answers so with this
-  -- number; and a change of line n answers so with this number
+  -- number; and a change of line n answers so with this number, and writes nothing unless it answers 0
   turnsBack : List (List ℕ) → List (List ℕ) → ℕ → ℕ → Sample
   changes : List (List ℕ) → List (List ℕ) → ℕ → ℕ → ℕ → Sample
 
@@ -129,7 +129,12 @@ holds (leaves columns found marks passes answer) = gives (repairedStore columns 
 holds (turnsBack rowTable columnTable answer number) =
     gives (repairedWith rowTable columnTable) (replicate 280 7) (replicate 4 7) 0 answer number
 holds (changes rowTable columnTable n answer number) =
-    let changed = changedWith rowTable columnTable n in eqb (changed .answer) answer && eqb (changed .number) number
+    let changed = changedWith rowTable columnTable n in
+    eqb (changed .answer) answer && eqb (changed .number) number
+    && (eqb answer 0
+    || (sameBytes (changed .lines) (replicate 280 0)
+    && sameBytes (changed .rowTable) (joined rowTable)
+    && sameBytes (changed .columnTable) (joined columnTable)))
 
 abbrev pub all : List Sample → Bool
 all [] = true

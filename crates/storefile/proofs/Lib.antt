@@ -8,3 +8,4 @@ pub mod MadeFile
 pub mod Needed
 pub mod Covering
 pub mod Limit
+pub mod Answers

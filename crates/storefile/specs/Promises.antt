@@ -48,3 +48,8 @@ RefusedFileEmpty = (file : List ℕ) → (opened 512 file .answer ≡ 0 → ⊥)
 -- ---- "3. In the program only"
 abbrev pub ThreeInTheProgramOnly : Type 0
 ThreeInTheProgramOnly = (file : List ℕ) → opened 512 file .answer ≡ 3 → ⊥
+
+-- ---- request Q-2: "9 is no longer given.", neither by opening a file nor by writing a header
+pub record NineNotGiven : Type 0 where
+  pub opening : (limit : ℕ) (file : List ℕ) → opened limit file .answer ≡ 9 → ⊥
+  pub header : (rows columns : ℕ) (out : List ℕ) → writeHeader rows columns out .answer ≡ 9 → ⊥

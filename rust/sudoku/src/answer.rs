@@ -30,14 +30,15 @@ pub enum Answer {
     /// 8: the line number isn't below rows × columns.
     Number,
     /// 13: a row's parity line isn't a correct line. The row table has to be
-    /// loaded anew; the column table hasn't been tested.
+    /// loaded anew; the column table may be bad too.
     RowParity {
         /// The row, counted from 0: of a repair the first that is bad, of a
         /// change the line's own.
         row: usize,
     },
-    /// 14: a column's parity line isn't a correct line. The column table has
-    /// to be loaded anew.
+    /// 14: a column's parity line isn't a correct line, while those of all
+    /// rows (of a change, that of the line's own row) are. The column table
+    /// has to be loaded anew.
     ColumnParity {
         /// The column, counted from 0: of a repair the first that is bad, of a
         /// change the line's own.

@@ -42,7 +42,8 @@
 //!   [`Store::new`] gives: cleared memory can't be told from empty captions.
 //! - After [`Answer::RowParity`] or [`Answer::ColumnParity`] that table is bad
 //!   and has to be loaded anew ([`Store::row_table_mut`],
-//!   [`Store::column_table_mut`]). Rows are tested first, so both may be bad.
+//!   [`Store::column_table_mut`]). After the first the column table may be bad
+//!   too, since rows are answered for first.
 //! - A refused call leaves the store as it was.
 //!
 //! # Linking
