@@ -96,7 +96,7 @@ enum sudoku_answer {
     SUDOKU_COLUMN_PARITY = 14, /* a column's parity line is not a correct line (its spare bits do not count) */
     SUDOKU_FAULTY = 10,        /* a line to be read alone, changed or summed into tables is faulty */
     SUDOKU_LEFT = 11,          /* repair: faulty lines are left after the last pass */
-    SUDOKU_DIFFERS = 12        /* repair: no line is faulty, but a parity line differs from that of the repaired lines: trust no line */
+    SUDOKU_DIFFERS = 12        /* repair: no line is faulty, but a parity line differs from the repaired lines: trust no line */
 };
 
 /* Marks: what became of a line. Reading alone gives 0, 1 or 4. */

@@ -53,7 +53,8 @@ fn parity_refusal(row_table: &[u8], row: RowIndex, column_table: &[u8], column: 
     0
 }
 
-// The first refusal that fits, or 0: only the line's own two parity lines are tested for 13 and 14, and the line alone for 10.
+// The first refusal that fits, or 0: only the line's own two parity lines are tested for 13 and 14, and the line alone for 10. It is read
+// first all the same, so that the answers stand together in their order.
 fn refusal(
     rows: usize,
     columns: usize,
@@ -63,8 +64,7 @@ fn refusal(
     n: usize,
     payload: &[u8],
 ) -> u32
-    ensures { λ r. ⌜ r
-        ≡ changeRefusal rows columns (now (lines .entry)) (now («row_table» .entry)) (now («column_table» .entry)) n
+    ensures { λ r. ⌜ r ≡ changeRefusal rows columns (now (lines .entry)) (now («row_table» .entry)) (now («column_table» .entry)) n
         (now (payload .entry)) ⌝ }
 {
     let refused = sizes::refusal(
@@ -83,7 +83,6 @@ fn refusal(
     if rows * columns <= n {
         return 8;
     }
-    // What is tested last is read first, so that the answers stand together in their order.
     let read = alone_at(lines, n);
     let row = row_of(columns, n);
     let bad = parity_refusal(row_table, row, column_table, column_of(columns, n));

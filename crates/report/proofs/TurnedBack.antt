@@ -6,7 +6,7 @@ use mathlib.Core.List.{List, [], _∷_}
 use Prim.Native.Nat.{ℕ, _*_, _≤_, _<_}
 use native.Mathlib.Omega.{arith}
 use borrow.Author.Tests.{not-true}
-use lib.Dec.{eqb, leb}
+use lib.Dec.{eqb}
 use lib.ListN.{length, getD}
 use Rattle.scheme.specs.Layer.{readLine}
 use Rattle.scheme.specs.Repair.{repair, marksOf}
@@ -14,19 +14,17 @@ use Rattle.scheme.specs.Marks.{LineMarks}
 use Rattle.scheme.specs.Demand3.{_∈_}
 use Rattle.scheme.proofs.Marking.{repair-marks}
 use Rattle.rectangle.specs.Store.{lineLayer, linesIn, groups}
-use Rattle.rectangle.specs.Refusals.{sidesFit, repairRefusal, repairAnswers}
+use Rattle.rectangle.specs.Refusals.{repairRefusal, repairAnswers}
 use Rattle.rectangle.specs.Repair.{StoreRepaired, repaired, handsOver, handedOver, repairStore}
 use Rattle.rectangle.proofs.Buffer.{length-linesIn}
 use Rattle.rectangle.proofs.LineLayer.{kept}
 use Rattle.rectangle.proofs.Runs.{zero-or-not, answer-hands-over, refusal-hands-nothing, repair-runs, repair-refused, repair-answers}
 use Rattle.rectangle.proofs.Tests.{every-at, not-among, either-way}
-use Rattle.storefile.specs.Header.{headerBytes}
-use Rattle.storefile.specs.Opening.{rowsIn, columnsIn, sidesWithin, contentsFit, openRefusal, opened}
+use Rattle.storefile.specs.Opening.{rowsIn, columnsIn, openRefusal, opened}
 use Rattle.report.specs.Marks.{countsOf}
 use Rattle.report.specs.Report.{ReportWritten, reportBytes, writeReport}
 use Rattle.report.specs.Check.{StoreChecked, refusedWith, repairOpened, counted, checkStore}
 use Rattle.report.specs.Promises.{total, CheckCountsLines, CheckRefusalsWriteNothing, NineNotGiven}
-use Rattle.storefile.specs.declared.opening.Opened.{Opened}
 use Rattle.report.specs.declared.report.Checked.{Checked}
 use Rattle.storefile.proofs.Answers as Opening
 use Rattle.storefile.proofs.Answers.{openAnswers, opening-answers}

@@ -396,6 +396,8 @@ fn sizes_fit(call: &Call) -> bool {
         && call.column_table.len() == call.columns * LINE_BYTES
 }
 
+/// By the reference's test of a correct line: where the reference itself is
+/// run, that test is judged by `every_place` and not here.
 fn is_bad(table: &[u8], n: usize) -> bool {
     !correct(&places(line_of(table, n)))
 }
