@@ -22,17 +22,22 @@ use Rattle.rectangle.proofs.First.{first-of, all-pass, inside}
 use Rattle.rectangle.proofs.Runs.{zero-or-not, answer-hands-over, change-runs, change-refused, tables-answers, change-answers, repair-answers}
 use Rattle.demands.proofs.Refused.{refusal, runs, refused, not-refused}
 
--- ---- the first that fails a test is the first that is not as the test asks
-module _ {A : Type 0} (test : A → Bool) (f : ℕ → A) (Good : ℕ → Type 0) (tells : (k : ℕ) → (test (f k) ≡ true) ↔ Good k) (n : ℕ) where
-  bad : (k : ℕ) → test (f k) ≡ false → Good k → ⊥
-  bad k e g = true≢false (sym (tells k .1 g) ∙ e)
+-- ---- what a test that fails tells, and what makes it fail
+refutes : {b : Bool} {Good : Type 0} → (b ≡ true) ↔ Good → b ≡ false → Good → ⊥
+refutes tells e g = true≢false (sym (tells .1 g) ∙ e)
 
+fails : (b : Bool) {Good : Type 0} → (b ≡ true) ↔ Good → (Good → ⊥) → b ≡ false
+fails true tells d = absurd (d (tells .0 refl))
+fails false tells d = refl
+
+-- the first that fails a test is the first that is not as the test asks
+module _ {A : Type 0} (test : A → Bool) (f : ℕ → A) (Good : ℕ → Type 0) (tells : (k : ℕ) → (test (f k) ≡ true) ↔ Good k) (n : ℕ) where
   first-bad : every test (map f (upFrom 0 n)) ≡ false → FirstBad Good n (firstFailing test (map f (upFrom 0 n)))
   first-bad e =
       let below = inside test f n (λ all. true≢false (sym (all-pass test f n all) ∙ e)) in
       record {
         inside = below;
-        bad = bad _ (first-of test f n .fails below);
+        bad = refutes (tells _) (first-of test f n .fails below);
         before = λ k h. tells k .0 (first-of test f n .before k h);
       }
 
@@ -52,13 +57,13 @@ module _ (r : Rectangle) where
   column-tells k = parity-tests (columnGroup (r .rows) (r .columns) (r .columnTable) k)
 
   -- ---- repair
+  abbrev rowsPass : Bool
+  rowsPass = every parityCorrect (rowGroups (r .rows) (r .columns) (r .rowTable))
+
+  abbrev columnsPass : Bool
+  columnsPass = every parityCorrect (columnGroups (r .rows) (r .columns) (r .columnTable))
+
   module _ (out marks : List ℕ) where
-    abbrev rowsPass : Bool
-    rowsPass = every parityCorrect (rowGroups (r .rows) (r .columns) (r .rowTable))
-
-    abbrev columnsPass : Bool
-    columnsPass = every parityCorrect (columnGroups (r .rows) (r .columns) (r .columnTable))
-
     -- an answer that is not 2 to 7 comes past the sizes
     parity-decides : (a : ℕ) → ((k : ℕ) → k < 8 → 0 < k → k ≡ a → ⊥) → refusal r out marks ≡ a → parityRefusal rowsPass columnsPass 0 ≡ a
     unfolding refusal repairRefusal
@@ -160,8 +165,8 @@ module _ (r : Rectangle) where
         record {
           row = λ e.
               let is = number-is e in
-              (is, rw is (row-bad (row-fails rowPasses columnPasses last (last-is (omega arith)) (own-decide 13 (λ k l h z. omega arith) (sym (changed-so .0) ∙ e)))));
-          column = λ e. let is = number-is e in (is, rw is (own-column-bad (column-bad e .1)));
+              (is, rw is (refutes (row-tells _) (row-fails rowPasses columnPasses last (last-is (omega arith)) (own-decide 13 (λ k l h z. omega arith) (sym (changed-so .0) ∙ e)))));
+          column = λ e. let is = number-is e in (is, rw is (refutes (column-tells _) (column-bad e .1)));
           rowFirst = λ e. row-tells _ .0 (column-bad e .0);
           otherwise = λ d e. changed-so .1 ∙ no-number _ _ _ (λ z. d (changed-so .0 ∙ z)) (λ z. e (changed-so .0 ∙ z));
           rowCorrect = λ e. row-tells _ .0 (none-bad e .0);
@@ -171,12 +176,6 @@ module _ (r : Rectangle) where
         number-is : {a : ℕ} → changeIn r n payload .answer ≡ a → changeIn r n payload .number ≡ numberWith a (n / r .columns) (n % r .columns)
         number-is e = changed-so .1 ∙ ap (λ (b : ℕ). numberWith b (n / r .columns) (n % r .columns)) (sym (changed-so .0) ∙ e)
 
-        row-bad : rowPasses ≡ false → RowCorrect r (n / r .columns) → ⊥
-        row-bad e g = true≢false (sym (row-tells _ .1 g) ∙ e)
-
-        own-column-bad : columnPasses ≡ false → ColumnCorrect r (n % r .columns) → ⊥
-        own-column-bad e g = true≢false (sym (column-tells _ .1 g) ∙ e)
-
         column-bad : changeIn r n payload .answer ≡ 14 → (rowPasses ≡ true) × (columnPasses ≡ false)
         column-bad e = column-fails rowPasses columnPasses last (last-is (omega arith)) (own-decide 14 (λ k l h z. omega arith) (sym (changed-so .0) ∙ e))
 
@@ -184,17 +183,13 @@ module _ (r : Rectangle) where
         none-bad e = both-pass rowPasses columnPasses last (own-decide 0 (λ k l h z. omega arith) (sym (changed-so .0) ∙ e))
 
 -- ---- where nothing before them is refused, a bad parity line is answered with them
-fails : (b : Bool) {Good : Type 0} → (b ≡ true) ↔ Good → (Good → ⊥) → b ≡ false
-fails true tells d = absurd (d (tells .0 refl))
-fails false tells d = refl
-
 module _ (r : Rectangle) (fits : Fits r) where
   module _ (out marks : List ℕ) (outBytes : holds (count r) out ≡ true) (markBytes : length marks ≡ count r) where
-    repair-decided : refusal r out marks ≡ parityRefusal (rowsPass r out marks) (columnsPass r out marks) 0
+    repair-decided : refusal r out marks ≡ parityRefusal (rowsPass r) (columnsPass r) 0
     unfolding refusal repairRefusal
     repair-decided = rw (fits .sides, fits .lineBytes, fits .tableBytes, outBytes, eq-eqb (length marks) (count r) markBytes)
 
-    answers-so : (a : ℕ) → 0 < a → parityRefusal (rowsPass r out marks) (columnsPass r out marks) 0 ≡ a → repairOf r out marks .answer ≡ a
+    answers-so : (a : ℕ) → 0 < a → parityRefusal (rowsPass r) (columnsPass r) 0 ≡ a → repairOf r out marks .answer ≡ a
     answers-so a some e =
         let is = repair-decided ∙ e in
         ap (λ (s : StoreRepaired). s .answer) (refused r out marks (λ z. omega arith)) ∙ is
