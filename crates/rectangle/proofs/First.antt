@@ -10,10 +10,6 @@ use Rattle.linecode.specs.Code.{upFrom}
 use Rattle.rectangle.specs.Refusals.{every, firstFailing}
 use Rattle.rectangle.proofs.Tests.{every-below, fails-below, every-image, image-fails}
 
-first-map : {A B : Type 0} (test : B → Bool) (f : A → B) (l : List A) → firstFailing test (map f l) ≡ firstFailing (λ a. test (f a)) l
-first-map test f [] = refl
-first-map test f (a ∷ l) = ap (λ (n : ℕ). cond (test (f a)) (suc n) 0) (first-map test f l)
-
 -- ---- number r is the first of so many that fails, or all pass and it is one past the last
 pub record First (test : ℕ → Bool) (total r : ℕ) : Type 0 where
   pub few : r ≤ total
@@ -45,6 +41,10 @@ from test i (suc n) = go (test i) refl (from test (suc i) n)
         before (suc k) h = ap test (shift k) ∙ later .before k (le-of-suc-le-suc h)
 
 -- of things numbered from 0
+first-map : {A B : Type 0} (test : B → Bool) (f : A → B) (l : List A) → firstFailing test (map f l) ≡ firstFailing (λ a. test (f a)) l
+first-map test f [] = refl
+first-map test f (a ∷ l) = ap (λ (n : ℕ). cond (test (f a)) (suc n) 0) (first-map test f l)
+
 pub first-of : {A : Type 0} (test : A → Bool) (f : ℕ → A) (n : ℕ) → First (λ k. test (f k)) n (firstFailing test (map f (upFrom 0 n)))
 first-of test f n =
     rw (first-map test f (upFrom 0 n))
