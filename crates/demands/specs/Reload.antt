@@ -74,7 +74,8 @@ pub record BadRefused : Type 0 where
   pub changeColumn : (r : Rectangle) → Fits r → (n : ℕ) (payload : List ℕ) → length payload ≡ dataBytes → n < count r
       → RowCorrect r (n / r .columns) → (ColumnCorrect r (n % r .columns) → ⊥) → changeIn r n payload .answer ≡ 14
 
--- ---- "9 is no longer given.": each entry point gives its own answers only
+-- ---- "9 is no longer given.": each of these entry points gives its own answers only; for files and the single line it is said where
+-- they are defined
 pub record AnswersGiven : Type 0 where
   pub tables : (r : Rectangle) (oldRows oldColumns : List ℕ) → tablesFor r oldRows oldColumns .answer ∈ tablesAnswers
   pub change : (r : Rectangle) (n : ℕ) (payload : List ℕ) → changeIn r n payload .answer ∈ changeAnswers
