@@ -10,7 +10,7 @@ pub mod Groups
 pub mod Area
 pub mod Alone
 pub mod Tests
-pub mod First
+pub mod InTurn
 pub mod Loops
 -- The entry points: what is refused, and what is written.
 pub mod Runs

@@ -11,14 +11,15 @@ use lib.Dec.{eqb, ltb}
 use lib.ListN.{length}
 use Rattle.linecode.specs.Places.{dataBytes}
 use Rattle.linecode.specs.Code.{upFrom}
+use Rattle.scheme.specs.Layer.{Layer}
 use Rattle.scheme.specs.Visit.{Group, State}
 use Rattle.scheme.specs.Demand3.{_∈_}
 use Rattle.scheme.specs.Repair.{faultyCount, agrees, answer}
-use Rattle.rectangle.specs.Store.{putLine, rowGroup, columnGroup, rowGroups, columnGroups, groups}
+use Rattle.rectangle.specs.Store.{lineLayer, putLine, rowGroup, columnGroup}
 use Rattle.rectangle.specs.Refusals.{every, sidesFit, holds, tablesFit, parityCorrect, acceptedAt, tablesRefusal, tablesAnswers, changeRefusal, changeAnswers, repairRefusal, repairRefusals, repairAnswers, numberWith}
 use Rattle.rectangle.specs.Tables.{rowTableOf, columnTableOf, makeTables}
 use Rattle.rectangle.specs.Change.{newLine, difference, addTo, changeLine}
-use Rattle.rectangle.specs.Repair.{repaired, handsOver, handedOver, repairNumber, repairStore}
+use Rattle.rectangle.specs.Repair.{repairedBy, handsOver, handedOver, repairBy, repairStore}
 use Rattle.rectangle.proofs.Tests.{every-at, refusal-in}
 use Rattle.rectangle.proofs.Members.{in-left, in-right}
 
@@ -68,29 +69,37 @@ module _ (rows columns : ℕ) (lines rowTable columnTable : List ℕ) where
       ∷ (acceptedAt lines n, 10)
       ∷ [])
 
-  repair-refusals : (out marks : List ℕ)
-      → repairRefusal rows columns lines rowTable columnTable out marks ∈ repairRefusals
+  repair-refusals : (out marks rowOut columnOut : List ℕ)
+      → repairRefusal rows columns lines rowTable columnTable out marks rowOut columnOut ∈ repairRefusals
   unfolding repairRefusal
-  repair-refusals out marks =
-      refusal-in
+  repair-refusals out marks rowOut columnOut =
+      within (refusal-in
       ((sidesFit rows columns, 2)
       ∷ (holds (rows * columns) lines, 5)
       ∷ (tablesFit rows columns rowTable columnTable, 6)
+      ∷ (tablesFit rows columns rowOut columnOut, 6)
       ∷ (holds (rows * columns) out && eqb (length marks) (rows * columns), 7)
-      ∷ (every parityCorrect (rowGroups rows columns rowTable), 13)
-      ∷ (every parityCorrect (columnGroups rows columns columnTable), 14)
-      ∷ [])
+      ∷ []))
+    where
+      -- 6 is given in two places
+      within : {n : ℕ} → n ∈ (0 ∷ 2 ∷ 5 ∷ 6 ∷ 6 ∷ 7 ∷ []) → n ∈ repairRefusals
+      within (inl e) = inl e
+      within (inr (inl e)) = inr (inl e)
+      within (inr (inr (inl e))) = inr (inr (inl e))
+      within (inr (inr (inr (inl e)))) = inr (inr (inr (inl e)))
+      within (inr (inr (inr (inr i)))) = inr (inr (inr i))
 
   -- no refusal of repair hands over
-  pub refusal-hands-nothing : (out marks : List ℕ) → (repairRefusal rows columns lines rowTable columnTable out marks ≡ 0 → ⊥)
-      → handsOver (repairRefusal rows columns lines rowTable columnTable out marks) ≡ false
+  pub refusal-hands-nothing : (out marks rowOut columnOut : List ℕ)
+      → (repairRefusal rows columns lines rowTable columnTable out marks rowOut columnOut ≡ 0 → ⊥)
+      → handsOver (repairRefusal rows columns lines rowTable columnTable out marks rowOut columnOut) ≡ false
   unfolding handsOver
-  refusal-hands-nothing out marks d =
-      go (repairRefusal rows columns lines rowTable columnTable out marks) d (repair-refusals out marks)
+  refusal-hands-nothing out marks rowOut columnOut d =
+      go (repairRefusal rows columns lines rowTable columnTable out marks rowOut columnOut) d (repair-refusals out marks rowOut columnOut)
     where
       go : (n : ℕ) → (n ≡ 0 → ⊥) → n ∈ repairRefusals → handsOver n ≡ false
       go n d (inl z) = absurd (d z)
-      go n d (inr i) = not-true _ (every-at (λ n. not (handsOver n)) (2 ∷ 5 ∷ 6 ∷ 7 ∷ 13 ∷ 14 ∷ []) refl n i)
+      go n d (inr i) = not-true _ (every-at (λ n. not (handsOver n)) (2 ∷ 5 ∷ 6 ∷ 7 ∷ []) refl n i)
 
   module _ (refusal : ℕ) (is : tablesRefusal rows columns lines rowTable columnTable ≡ refusal) where
     pub tables-run : refusal ≡ 0
@@ -131,23 +140,18 @@ module _ (rows columns : ℕ) (lines rowTable columnTable : List ℕ) where
     unfolding changeLine
     change-refused d = rw (is, ne-eqb refusal 0 d)
 
-  module _ (out marks : List ℕ) (refusal : ℕ) (is : repairRefusal rows columns lines rowTable columnTable out marks ≡ refusal) where
+  module _ (layer : Layer) (out marks rowOut columnOut : List ℕ) (refusal : ℕ)
+      (is : repairRefusal rows columns lines rowTable columnTable out marks rowOut columnOut ≡ refusal) where
     pub repair-runs : refusal ≡ 0
-        → repairStore rows columns lines rowTable columnTable out marks
-        ≡ handedOver (groups rows columns rowTable columnTable) (repaired rows columns lines rowTable columnTable)
-    unfolding repairStore
+        → repairBy layer rows columns lines rowTable columnTable out marks rowOut columnOut
+        ≡ handedOver layer rows columns rowTable columnTable (repairedBy layer rows columns lines rowTable columnTable)
+    unfolding repairBy
     repair-runs e = rw (is ∙ e)
 
     pub repair-refused : (refusal ≡ 0 → ⊥)
-        → repairStore rows columns lines rowTable columnTable out marks
-        ≡ record {
-          answer = refusal;
-          passes = 0;
-          number = repairNumber refusal rows columns rowTable columnTable;
-          lines = out;
-          marks = marks;
-        }
-    unfolding repairStore
+        → repairBy layer rows columns lines rowTable columnTable out marks rowOut columnOut
+        ≡ record { answer = refusal; passes = 0; lines = out; marks = marks; rowTable = rowOut; columnTable = columnOut }
+    unfolding repairBy
     repair-refused d = rw (is, ne-eqb refusal 0 d)
 
   -- ---- what each entry point answers
@@ -168,18 +172,20 @@ module _ (rows columns : ℕ) (lines rowTable columnTable : List ℕ) where
       go (inl z) = rw (change-runs n payload 0 z refl) (inl refl)
       go (inr d) = rw (change-refused n payload _ refl d) (change-refusals n payload)
 
-  pub repair-answers : (out marks : List ℕ) → repairStore rows columns lines rowTable columnTable out marks .answer ∈ repairAnswers
+  pub repair-answers : (out marks rowOut columnOut : List ℕ)
+      → repairStore rows columns lines rowTable columnTable out marks rowOut columnOut .answer ∈ repairAnswers
   unfolding handedOver
-  repair-answers out marks = go (zero-or-not (repairRefusal rows columns lines rowTable columnTable out marks))
+  repair-answers out marks rowOut columnOut =
+      go (zero-or-not (repairRefusal rows columns lines rowTable columnTable out marks rowOut columnOut))
     where
       own : (n : ℕ) → n ∈ (0 ∷ 11 ∷ 12 ∷ []) → n ∈ repairAnswers
       own n (inl z) = inl z
       own n (inr i) = in-right repairRefusals (11 ∷ 12 ∷ []) n i
 
-      go : (repairRefusal rows columns lines rowTable columnTable out marks ≡ 0)
-          ⊎ (repairRefusal rows columns lines rowTable columnTable out marks ≡ 0 → ⊥)
-          → repairStore rows columns lines rowTable columnTable out marks .answer ∈ repairAnswers
-      go (inl z) = rw (repair-runs out marks 0 z refl) (own _ (answer-own _ _))
+      go : (repairRefusal rows columns lines rowTable columnTable out marks rowOut columnOut ≡ 0)
+          ⊎ (repairRefusal rows columns lines rowTable columnTable out marks rowOut columnOut ≡ 0 → ⊥)
+          → repairStore rows columns lines rowTable columnTable out marks rowOut columnOut .answer ∈ repairAnswers
+      go (inl z) = rw (repair-runs lineLayer out marks rowOut columnOut 0 z refl) (own _ (answer-own _ _))
       go (inr d) =
-          rw (repair-refused out marks _ refl d)
-          (in-left repairRefusals (11 ∷ 12 ∷ []) _ (repair-refusals out marks))
+          rw (repair-refused lineLayer out marks rowOut columnOut _ refl d)
+          (in-left repairRefusals (11 ∷ 12 ∷ []) _ (repair-refusals out marks rowOut columnOut))

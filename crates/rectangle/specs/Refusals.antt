@@ -1,14 +1,14 @@
 -- Document 01, "Turned back, in checking order": for each entry point the first refusal of the list that fits, or 0.
 use mathlib.Core.Bool.{Bool, true, not, cond, _&&_}
 use mathlib.Core.List.{List, [], _∷_, _++_}
-use Prim.Native.Nat.{ℕ, suc, _*_, _/_, _%_}
+use Prim.Native.Nat.{ℕ, _*_, _/_, _%_}
 use lib.Dec.{eqb, leb, ltb}
 use lib.ListN.{length}
 use Rattle.linecode.specs.Places.{dataBytes, lineBytes}
 use Rattle.linecode.specs.Code.{upFrom}
 use Rattle.scheme.specs.Layer.{parityAddress}
 use Rattle.scheme.specs.Visit.{Group, isFaulty}
-use Rattle.rectangle.specs.Store.{lineLayer, isCorrectUnder, aloneAt, rowGroup, columnGroup, rowGroups, columnGroups}
+use Rattle.rectangle.specs.Store.{lineLayer, isCorrectUnder, aloneAt, rowGroup, columnGroup}
 
 -- a test that fails gives its refusal, and otherwise the next test is made
 abbrev pub unless : Bool → ℕ → ℕ → ℕ
@@ -18,11 +18,6 @@ unless passed refusal next = cond passed next refusal
 abbrev pub every : {A : Type 0} → (A → Bool) → List A → Bool
 every test [] = true
 every test (a ∷ l) = test a && every test l
-
--- the number of the first of a list that fails a test, counted from 0; if none does, how many there are
-abbrev pub firstFailing : {A : Type 0} → (A → Bool) → List A → ℕ
-firstFailing test [] = 0
-firstFailing test (a ∷ l) = cond (test a) (suc (firstFailing test l)) 0
 
 -- 2: rows and columns lie in 2 to 512
 unfoldable pub sideFits : ℕ → Bool
@@ -43,9 +38,9 @@ tablesFit rows columns rowTable columnTable = holds rows rowTable && holds colum
 unfoldable pub parityCorrect : Group → Bool
 parityCorrect g = isCorrectUnder (parityAddress lineLayer (g .members)) (g .parity)
 
--- 13, then 14: a row's, or every row's, parity line is correct, then a column's, or every column's; then the next test
+-- 13, then 14: a row's parity line is correct, then a column's; then the next test
 abbrev pub parityRefusal : Bool → Bool → ℕ → ℕ
-parityRefusal ofRows ofColumns next = unless ofRows 13 (unless ofColumns 14 next)
+parityRefusal ofRow ofColumn next = unless ofRow 13 (unless ofColumn 14 next)
 
 -- 10: a line is not faulty where it is read alone
 unfoldable pub acceptedAt : List ℕ → ℕ → Bool
@@ -80,21 +75,18 @@ changeRefusal rows columns lines rowTable columnTable n payload =
 abbrev pub changeAnswers : List ℕ
 changeAnswers = 0 ∷ 2 ∷ 5 ∷ 6 ∷ 7 ∷ 8 ∷ 13 ∷ 14 ∷ 10 ∷ []
 
--- repair: out and marks are the line and mark buffers that it writes
-unfoldable pub repairRefusal : ℕ → ℕ → List ℕ → List ℕ → List ℕ → List ℕ → List ℕ → ℕ
-repairRefusal rows columns lines rowTable columnTable out marks =
+-- repair: the buffers that it writes are out and marks, for lines and marks, and rowOut and columnOut, for both tables
+unfoldable pub repairRefusal : ℕ → ℕ → List ℕ → List ℕ → List ℕ → List ℕ → List ℕ → List ℕ → List ℕ → ℕ
+repairRefusal rows columns lines rowTable columnTable out marks rowOut columnOut =
     unless (sidesFit rows columns) 2
     (unless (holds (rows * columns) lines) 5
     (unless (tablesFit rows columns rowTable columnTable) 6
-    (unless (holds (rows * columns) out && eqb (length marks) (rows * columns)) 7
-    (parityRefusal
-    (every parityCorrect (rowGroups rows columns rowTable))
-    (every parityCorrect (columnGroups rows columns columnTable))
-    0))))
+    (unless (tablesFit rows columns rowOut columnOut) 6
+    (unless (holds (rows * columns) out && eqb (length marks) (rows * columns)) 7 0))))
 
 -- the answers that repair may give: 0 and its refusals, and 11 and 12 of its steps
 abbrev pub repairRefusals : List ℕ
-repairRefusals = 0 ∷ 2 ∷ 5 ∷ 6 ∷ 7 ∷ 13 ∷ 14 ∷ []
+repairRefusals = 0 ∷ 2 ∷ 5 ∷ 6 ∷ 7 ∷ []
 
 abbrev pub repairAnswers : List ℕ
 repairAnswers = repairRefusals ++ (11 ∷ 12 ∷ [])

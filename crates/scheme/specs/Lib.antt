@@ -1,8 +1,9 @@
--- The SuDoku steps as document 01 makes them exact: read Layer, then Visit, Repair, Marks, Stays, Readings, and last Demand3. Case is
--- a worked case.
+-- The SuDoku steps as document 01 makes them exact: read Layer, then Visit, Repair, Parity, Marks, Stays, Readings, and last Demand3.
+-- Case is a worked case.
 pub mod Layer
 pub mod Visit
 pub mod Repair
+pub mod Parity
 pub mod Marks
 pub mod Stays
 pub mod Readings
