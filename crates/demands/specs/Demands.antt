@@ -9,14 +9,15 @@ use Rattle.gf2.specs.Word.{_⊕_, distance}
 use Rattle.linecode.specs.Places.{dataBytes, lineOf}
 use Rattle.linecode.specs.Code.{upFrom}
 use Rattle.scheme.specs.Layer.{CorrectLine, readLine, parityAddress}
-use Rattle.scheme.specs.Visit.{isFaulty, select}
+use Rattle.scheme.specs.Visit.{Group, isFaulty, select}
 use Rattle.scheme.specs.Repair.{Repaired, pass, linesOf, marksOf}
+use Rattle.scheme.specs.Parity.{unusable}
 use Rattle.scheme.specs.Demand3.{_∈_}
-use Rattle.rectangle.specs.Store.{lineLayer, bytesAt, placesAt, linesIn, bufferOf, aloneAt, row, column, groups}
+use Rattle.rectangle.specs.Store.{lineLayer, bytesAt, placesAt, linesIn, bufferOf, aloneAt, row, column, columnGroup}
 use Rattle.rectangle.specs.Refusals.{sidesFit, holds, tablesFit, acceptedAt}
 use Rattle.rectangle.specs.Tables.{rowParity, columnParity, rowTableOf, columnTableOf, TablesMade, makeTables}
 use Rattle.rectangle.specs.Change.{LineChanged, changeLine}
-use Rattle.rectangle.specs.Repair.{repaired, StoreRepaired, handsOver, repairStore}
+use Rattle.rectangle.specs.Repair.{usedGroups, repaired, StoreRepaired, handsOver, repairStore}
 
 -- a rectangle: its rows and columns, and in bytes its lines and both tables
 pub record Rectangle : Type 0 where
@@ -30,17 +31,34 @@ pub record Rectangle : Type 0 where
 abbrev pub count : Rectangle → ℕ
 count r = r .rows * r .columns
 
--- the three entry points on a rectangle; old tables, out and marks are the buffers to be written, as handed in
+-- the three entry points on a rectangle; old tables are the buffers to be written, as handed in
 unfoldable pub tablesFor : Rectangle → List ℕ → List ℕ → TablesMade
 tablesFor r oldRows oldColumns = makeTables (r .rows) (r .columns) (r .lines) oldRows oldColumns
 
 unfoldable pub changeIn : Rectangle → ℕ → List ℕ → LineChanged
 changeIn r n payload = changeLine (r .rows) (r .columns) (r .lines) (r .rowTable) (r .columnTable) n payload
 
-unfoldable pub repairOf : Rectangle → List ℕ → List ℕ → StoreRepaired
-repairOf r out marks = repairStore (r .rows) (r .columns) (r .lines) (r .rowTable) (r .columnTable) out marks
+-- the four buffers that repair writes, as handed in
+pub record Buffers : Type 0 where
+  pub lines : List ℕ
+  pub marks : List ℕ
+  pub rowTable : List ℕ
+  pub columnTable : List ℕ
 
--- what the SuDoku steps leave of a rectangle
+unfoldable pub repairOf : Rectangle → Buffers → StoreRepaired
+repairOf r b =
+    repairStore (r .rows) (r .columns) (r .lines) (r .rowTable) (r .columnTable) (b .lines) (b .marks) (b .rowTable) (b .columnTable)
+
+-- they have the lengths that refusals 6 and 7 ask for
+pub record Room (r : Rectangle) (b : Buffers) : Type 0 where
+  pub lineBytes : holds (count r) (b .lines) ≡ true
+  pub marks : length (b .marks) ≡ count r
+  pub tableBytes : tablesFit (r .rows) (r .columns) (b .rowTable) (b .columnTable) ≡ true
+
+-- the groups as repair uses them, and what the SuDoku steps leave of a rectangle
+abbrev pub groupsOf : Rectangle → List Group
+groupsOf r = usedGroups lineLayer (r .rows) (r .columns) (r .rowTable) (r .columnTable)
+
 abbrev pub stepsOn : Rectangle → Repaired
 stepsOn r = repaired (r .rows) (r .columns) (r .lines) (r .rowTable) (r .columnTable)
 
@@ -52,15 +70,16 @@ pub record RefusalsWriteNothing : Type 0 where
       → (changeIn r n payload .lines ≡ r .lines) × (changeIn r n payload .rowTable ≡ r .rowTable)
       × (changeIn r n payload .columnTable ≡ r .columnTable)
   -- a refusal of repair is an answer that hands nothing over: not 0, 11 or 12
-  pub repair : (r : Rectangle) (out marks : List ℕ) → handsOver (repairOf r out marks .answer) ≡ false
-      → (repairOf r out marks .lines ≡ out) × (repairOf r out marks .marks ≡ marks) × (repairOf r out marks .passes ≡ 0)
+  pub repair : (r : Rectangle) (b : Buffers) → handsOver (repairOf r b .answer) ≡ false
+      → (repairOf r b .lines ≡ b .lines) × (repairOf r b .marks ≡ b .marks)
+      × (repairOf r b .rowTable ≡ b .rowTable) × (repairOf r b .columnTable ≡ b .columnTable) × (repairOf r b .passes ≡ 0)
 
--- ---- Demand 1: "repair's 11 and 12 still hand over lines and marks as its steps leave them.", and so does 0
+-- ---- Demand 1: "repair's 11 and 12 still hand over lines and marks as its steps leave them.", and so does 0 (the tables: `TablesGiven`)
 abbrev pub HandsOverAsLeft : Type 0
 HandsOverAsLeft =
-    (r : Rectangle) (out marks : List ℕ) → handsOver (repairOf r out marks .answer) ≡ true
-    → (repairOf r out marks .lines ≡ bufferOf (linesOf (stepsOn r .cells)))
-    × (repairOf r out marks .marks ≡ marksOf (stepsOn r .cells))
+    (r : Rectangle) (b : Buffers) → handsOver (repairOf r b .answer) ≡ true
+    → (repairOf r b .lines ≡ bufferOf (linesOf (stepsOn r .cells)))
+    × (repairOf r b .marks ≡ marksOf (stepsOn r .cells))
 
 -- ---- Demand 2: "Written lines and tables are those of the named Hamming and BCH codes,"
 -- where tables are made, each of their parity lines is a correct line
@@ -88,12 +107,11 @@ pub record ParityOfCorrectLines : Type 0 where
   pub columns : (rows columns : ℕ) (lines : List ℕ) (k : ℕ) → 1 ≤ rows → CorrectLines lines (column rows columns k)
       → lineLayer .Correct (parityAddress lineLayer (column rows columns k)) (columnParity rows columns lines k)
 
--- ---- Demand 2: "Lines are given up only when a whole pass mends none of them."
+-- ---- Demand 2: "Lines are given up only when a whole pass mends none of them.", over the groups as read
 abbrev pub GivenUpLast : Type 0
 GivenUpLast =
-    (r : Rectangle) (out marks : List ℕ) → repairOf r out marks .answer ≡ 11
-    → pass (readLine lineLayer) (groups (r .rows) (r .columns) (r .rowTable) (r .columnTable)) (stepsOn r .cells)
-    ≡ stepsOn r .cells
+    (r : Rectangle) (b : Buffers) → repairOf r b .answer ≡ 11
+    → pass (readLine lineLayer) (groupsOf r) (stepsOn r .cells) ≡ stepsOn r .cells
 
 -- ---- Document 01: "Repair also returns its passes: 0 when nothing was faulty after the first reading, never more than the lines
 -- faulty then."
@@ -108,8 +126,7 @@ pub record PassesOf (r : Rectangle) (passes : ℕ) : Type 0 where
 -- a refusal's passes are 0: `RefusalsWriteNothing`
 abbrev pub PassesReturned : Type 0
 PassesReturned =
-    (r : Rectangle) (out marks : List ℕ) → handsOver (repairOf r out marks .answer) ≡ true
-    → PassesOf r (repairOf r out marks .passes)
+    (r : Rectangle) (b : Buffers) → handsOver (repairOf r b .answer) ≡ true → PassesOf r (repairOf r b .passes)
 
 -- ---- Document 01: "An accepted line is never altered later." (for those that a visit mends: `NeverAltered` of the scheme)
 -- line n is handed over as it reads alone, spare bits 0, and with that mark (a mark left out would be a 4)
@@ -119,15 +136,15 @@ pub record GivenAsRead (r : Rectangle) (given : StoreRepaired) (n : ℕ) : Type 
 
 abbrev pub AcceptedNeverAltered : Type 0
 AcceptedNeverAltered =
-    (r : Rectangle) (out marks : List ℕ) → handsOver (repairOf r out marks .answer) ≡ true
-    → (n : ℕ) → n < count r → acceptedAt (r .lines) n ≡ true → GivenAsRead r (repairOf r out marks) n
+    (r : Rectangle) (b : Buffers) → handsOver (repairOf r b .answer) ≡ true
+    → (n : ℕ) → n < count r → acceptedAt (r .lines) n ≡ true → GivenAsRead r (repairOf r b) n
 
 -- ---- Document 01: "it is faulty and kept as found, spare bits 0", also where it stays faulty to the end
 abbrev pub FaultyAsFound : Type 0
 FaultyAsFound =
-    (r : Rectangle) (out marks : List ℕ) → handsOver (repairOf r out marks .answer) ≡ true
-    → (n : ℕ) → n < count r → getD (repairOf r out marks .marks) n 0 ≡ 4
-    → bytesAt (repairOf r out marks .lines) n ≡ lineOf (placesAt (r .lines) n)
+    (r : Rectangle) (b : Buffers) → handsOver (repairOf r b .answer) ≡ true
+    → (n : ℕ) → n < count r → getD (repairOf r b .marks) n 0 ≡ 4
+    → bytesAt (repairOf r b .lines) n ≡ lineOf (placesAt (r .lines) n)
 
 -- ---- Words of demand 3
 -- a rectangle written has correct lines only and the tables made from them, all spare bits 0
@@ -172,6 +189,13 @@ module _ (written received : Rectangle) where
   abbrev pub damagedAt : ℕ → ℕ → Bool
   damagedAt n place = getD (placesAt (written .lines) n ⊕ placesAt (received .lines) n) place false
 
+  -- the number of damaged bits of the parity line of row k, and of column k
+  abbrev pub rowDamage : ℕ → ℕ
+  rowDamage k = distance (placesAt (written .rowTable) k) (placesAt (received .rowTable) k)
+
+  abbrev pub columnDamage : ℕ → ℕ
+  columnDamage k = distance (placesAt (written .columnTable) k) (placesAt (received .columnTable) k)
+
   -- the row or the column of line n, given as the number that each line has of it, holds no other line left
   abbrev pub Alone : (ℕ → ℕ) → ℕ → List ℕ → Type 0
   Alone groupOf n later = (m : ℕ) → m ∈ later → groupOf m ≡ groupOf n → ⊥
@@ -192,43 +216,61 @@ module _ (written received : Rectangle) where
   abbrev pub Turn : (ℕ → ℕ) → ℕ → List ℕ → Type 0
   Turn groupOf n later = Alone groupOf n later ⊎ Paired groupOf n later
 
-  -- at a line's turn, in its row or in its column, those before it count as whole, it and those after it are left
-  abbrev pub Turns : List ℕ → Type 0
-  Turns [] = Unit {0}
-  Turns (n ∷ later) =
-      (Turn (λ m. m / written .columns) n later ⊎ Turn (λ m. m % written .columns) n later) × Turns later
+  -- at a line's turn, in its row or in its column if that one counts, those before it count as whole, it and those after it are left
+  abbrev pub TurnsAmong : (ℕ → Type 0) → (ℕ → Type 0) → List ℕ → Type 0
+  TurnsAmong RowCounts ColumnCounts [] = Unit {0}
+  TurnsAmong RowCounts ColumnCounts (n ∷ later) =
+      ((RowCounts (n / written .columns) × Turn (λ m. m / written .columns) n later)
+      ⊎ (ColumnCounts (n % written .columns) × Turn (λ m. m % written .columns) n later))
+      × TurnsAmong RowCounts ColumnCounts later
 
-  -- the bounds that demand 3 sets to damage, whatever the order
-  pub record WithinBounds : Type 0 where
-    -- what is handed to repair has the rows and columns written, and the lengths that refusals 5 and 6 ask for
+  -- request Q-3: "only groups whose parity line has at most one count in the order"
+  abbrev pub Turns : List ℕ → Type 0
+  Turns = TurnsAmong (λ k. rowDamage k ≤ 1) (λ k. columnDamage k ≤ 1)
+
+  -- what is handed to repair has the rows and columns written, and the lengths that refusals 5 and 6 ask for
+  pub record SameShape : Type 0 where
     pub rows : received .rows ≡ written .rows
     pub columns : received .columns ≡ written .columns
     pub lineBytes : holds (count received) (received .lines) ≡ true
     pub tableBytes : tablesFit (received .rows) (received .columns) (received .rowTable) (received .columnTable) ≡ true
-    -- both parity tables are undamaged, and no line has more than five damaged bits
-    pub tables : EqualTables received written
-    pub five : (n : ℕ) → n < count written → damage n ≤ 5
 
-  -- damaged so, as demand 3 asks
-  pub record DamagedSo : Type 0 where
-    pub bounds : WithinBounds
-    -- in the order stands each line with two or more damaged bits, once, and no other line
+  -- the bounds that demand 3 sets to damage, whatever the order: no line has more than five damaged bits, and by request Q-3 no parity
+  -- line has
+  pub record WithinBounds : Type 0 where
+    pub shape : SameShape
+    pub five : (n : ℕ) → n < count written → damage n ≤ 5
+    pub rowFive : (k : ℕ) → k < written .rows → rowDamage k ≤ 5
+    pub columnFive : (k : ℕ) → k < written .columns → columnDamage k ≤ 5
+
+  -- in the order stands each line with two or more damaged bits, once, and no other line
+  pub record Order (TurnsOf : List ℕ → Type 0) : Type 0 where
     pub order : List ℕ
     pub once : Distinct order
     pub each : (n : ℕ) → n < count written → 2 ≤ damage n → n ∈ order
     pub noOther : (n : ℕ) → n ∈ order → (n < count written) × (2 ≤ damage n)
-    pub turns : Turns order
+    pub turns : TurnsOf order
+
+  -- damaged so, as demand 3 asks
+  pub record DamagedSo : Type 0 where
+    pub bounds : WithinBounds
+    pub ordered : Order Turns
 
 -- ---- Demand 3: "For every rectangle written, whatever bits were damaged since: if .. then repair answers 0 and returns exactly
--- the rectangle written, byte for byte."
+-- the rectangle written, byte for byte.", its tables too
+pub record Returned (written : Rectangle) (given : StoreRepaired) : Type 0 where
+  pub answer : given .answer ≡ 0
+  pub lines : given .lines ≡ written .lines
+  pub rowTable : given .rowTable ≡ written .rowTable
+  pub columnTable : given .columnTable ≡ written .columnTable
+
 abbrev pub ExactReturn : Type 0
 ExactReturn =
-    (written received : Rectangle) → Written written → DamagedSo written received → (out marks : List ℕ)
-    → holds (count received) out ≡ true → length marks ≡ count received
-    → (repairOf received out marks .answer ≡ 0) × (repairOf received out marks .lines ≡ written .lines)
+    (written received : Rectangle) → Written written → DamagedSo written received → (b : Buffers) → Room received b
+    → Returned written (repairOf received b)
 
 -- the hypothesis can be met, with lines that differ and a trial that is needed: the first line of the order has its turn by trial,
--- and is not the only one left in its row or in its column
+-- and is not the only one left in its row or in its column; that row's parity line is hurt, and some column is unusable
 pub record HypothesisMet : Type 0 where
   pub written : Rectangle
   pub received : Rectangle
@@ -237,13 +279,25 @@ pub record HypothesisMet : Type 0 where
   pub differ : linesIn (count written) (written .lines) ≡ linesIn (count received) (received .lines) → ⊥
   pub first : ℕ
   pub later : List ℕ
-  pub order : damaged .order ≡ first ∷ later
+  pub order : damaged .ordered .order ≡ first ∷ later
   pub trial : Paired written received (λ m. m / written .columns) first later
   pub notInRow : Alone written received (λ m. m / written .columns) first later → ⊥
   pub notInColumn : Alone written received (λ m. m % written .columns) first later → ⊥
+  pub hurt : rowDamage written received (first / written .columns) ≡ 1
+  pub lost : ℕ
+  pub inside : lost < written .columns
+  pub faulty : unusable lineLayer (columnGroup (received .rows) (received .columns) (received .columnTable) lost) ≡ true
 
 -- ---- Document 00: "A missing caption I can cover with a spoken cue to the ushers; a caption mended into the wrong words stands there
 -- as the play."
+-- a parity line handed over, of so many in a table, is the one written; only where lines are left faulty it may be as found, spare bits
+-- 0, and then it has two or more damaged bits
+abbrev pub ParityNotWrong : ℕ → ℕ → List ℕ → List ℕ → List ℕ → Type 0
+ParityNotWrong answer total written received given =
+    (k : ℕ) → k < total
+    → (bytesAt given k ≡ bytesAt written k)
+    ⊎ ((answer ≡ 11) × (bytesAt given k ≡ lineOf (placesAt received k)) × (2 ≤ distance (placesAt written k) (placesAt received k)))
+
 -- a line with another mark than 4 is the line written (a mark left out would be a 0); one with mark 4 is as found, spare bits 0, and
 -- has two or more damaged bits; and answer 12, which says that some line is wrong, is never given
 pub record NoneWrong (written received : Rectangle) (given : StoreRepaired) : Type 0 where
@@ -253,13 +307,14 @@ pub record NoneWrong (written received : Rectangle) (given : StoreRepaired) : Ty
   pub asFound : (n : ℕ) → n < count written → getD (given .marks) n 0 ≡ 4
       → bytesAt (given .lines) n ≡ lineOf (placesAt (received .lines) n)
   pub damaged : (n : ℕ) → n < count written → getD (given .marks) n 0 ≡ 4 → 2 ≤ damage written received n
+  pub rowTable : ParityNotWrong (given .answer) (written .rows) (written .rowTable) (received .rowTable) (given .rowTable)
+  pub columnTable : ParityNotWrong (given .answer) (written .columns) (written .columnTable) (received .columnTable) (given .columnTable)
 
 -- within the bounds, and whatever the order
 abbrev pub NoWrongLine : Type 0
 NoWrongLine =
-    (written received : Rectangle) → Written written → WithinBounds written received → (out marks : List ℕ)
-    → holds (count received) out ≡ true → length marks ≡ count received
-    → NoneWrong written received (repairOf received out marks)
+    (written received : Rectangle) → Written written → WithinBounds written received → (b : Buffers) → Room received b
+    → NoneWrong written received (repairOf received b)
 
 -- ---- Demand 3: "No two different rectangles written, each damaged so in its own way, look alike in lines and tables."
 abbrev pub NotAlike : Type 0

@@ -1,20 +1,18 @@
 -- Request Q-1, "Damage in the Hamming bits was invisible": what the marks that repair gives tell, and that nothing else moved.
 use mathlib.Core.Path.{_≡_}
 use mathlib.Core.Logic.{_⊎_, _↔_}
-use mathlib.Core.Bool.{true, cond}
+use mathlib.Core.Bool.{true}
 use mathlib.Core.List.{List}
 use Prim.Native.Nat.{ℕ, _≤_, _<_}
-use lib.Dec.{eqb}
 use lib.ListN.{length, getD}
 use Rattle.gf2.specs.Word.{distance}
 use Rattle.scheme.specs.Layer.{CorrectLine, readLine}
 use Rattle.scheme.specs.Visit.{isFaulty}
-use Rattle.scheme.specs.Repair.{repair}
-use Rattle.rectangle.specs.Store.{lineLayer, placesAt, linesIn, aloneAt, groups}
+use Rattle.rectangle.specs.Store.{lineLayer, placesAt, aloneAt}
 use Rattle.rectangle.specs.Before.{layerBefore}
-use Rattle.rectangle.specs.Refusals.{acceptedAt, repairRefusal}
-use Rattle.rectangle.specs.Repair.{StoreRepaired, handsOver, handedOver, repairNumber}
-use Rattle.demands.specs.Demands.{Rectangle, count, repairOf}
+use Rattle.rectangle.specs.Refusals.{acceptedAt}
+use Rattle.rectangle.specs.Repair.{StoreRepaired, handsOver, repairBy}
+use Rattle.demands.specs.Demands.{Rectangle, count, Buffers, repairOf}
 
 -- ---- "Reading alone now says whether any of the 553 places was rewritten, and mark 1 means an accepted line that was rewritten anywhere.
 -- Mark 0 is left for lines correct as found."
@@ -26,8 +24,8 @@ pub record MarkTells (r : Rectangle) (given : StoreRepaired) (n : ℕ) : Type 0 
 
 abbrev pub MarksTellDamage : Type 0
 MarksTellDamage =
-    (r : Rectangle) (out marks : List ℕ) → handsOver (repairOf r out marks .answer) ≡ true
-    → (n : ℕ) → n < count r → MarkTells r (repairOf r out marks) n
+    (r : Rectangle) (b : Buffers) → handsOver (repairOf r b .answer) ≡ true
+    → (n : ℕ) → n < count r → MarkTells r (repairOf r b) n
 
 -- ---- "bytes, passes and answers are compared as before."
 -- a line reads alone as the same line, and is faulty where it was: making tables and changing a line take no more from a reading
@@ -37,29 +35,22 @@ LinesReadAsBefore =
     (before .line ≡ aloneAt lines n .line) × (isFaulty before ≡ isFaulty (aloneAt lines n))
 
 -- repair with the reading of before
-unfoldable pub repairBefore : Rectangle → List ℕ → List ℕ → StoreRepaired
-repairBefore r out marks =
-    let refusal = repairRefusal (r .rows) (r .columns) (r .lines) (r .rowTable) (r .columnTable) out marks in
-    let gs = groups (r .rows) (r .columns) (r .rowTable) (r .columnTable) in
-    cond (eqb refusal 0) (handedOver gs (repair (readLine layerBefore) gs (linesIn (count r) (r .lines))))
-    (record {
-      answer = refusal;
-      passes = 0;
-      number = repairNumber refusal (r .rows) (r .columns) (r .rowTable) (r .columnTable);
-      lines = out;
-      marks = marks;
-    })
+unfoldable pub repairBefore : Rectangle → Buffers → StoreRepaired
+repairBefore r b =
+    repairBy layerBefore (r .rows) (r .columns) (r .lines) (r .rowTable) (r .columnTable)
+    (b .lines) (b .marks) (b .rowTable) (b .columnTable)
 
--- the same answer, passes, number and bytes of lines; as many marks, each the same, or 0 or 1 then and now, so that marks 2, 3 and 4 are
+-- the same answer, passes and bytes of lines and tables; as many marks, each the same, or 0 or 1 then and now, so that marks 2, 3 and 4 are
 -- as before
 pub record SameButMarks (before now : StoreRepaired) : Type 0 where
   pub answer : before .answer ≡ now .answer
-  pub number : before .number ≡ now .number
   pub passes : before .passes ≡ now .passes
   pub lines : before .lines ≡ now .lines
+  pub rowTable : before .rowTable ≡ now .rowTable
+  pub columnTable : before .columnTable ≡ now .columnTable
   pub count : length (before .marks) ≡ length (now .marks)
   pub marks : (n : ℕ) → (getD (before .marks) n 0 ≡ getD (now .marks) n 0)
       ⊎ ((getD (before .marks) n 0 ≤ 1) × (getD (now .marks) n 0 ≤ 1))
 
 abbrev pub RepairedAsBefore : Type 0
-RepairedAsBefore = (r : Rectangle) (out marks : List ℕ) → SameButMarks (repairBefore r out marks) (repairOf r out marks)
+RepairedAsBefore = (r : Rectangle) (b : Buffers) → SameButMarks (repairBefore r b) (repairOf r b)

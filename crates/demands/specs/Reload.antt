@@ -10,8 +10,7 @@ use Rattle.scheme.specs.Demand3.{_∈_}
 use Rattle.rectangle.specs.Store.{lineLayer, placesAt, row, column}
 use Rattle.rectangle.specs.Refusals.{sidesFit, holds, tablesFit, tablesAnswers, changeAnswers, repairAnswers}
 use Rattle.rectangle.specs.Change.{LineChanged}
-use Rattle.rectangle.specs.Repair.{StoreRepaired, handsOver}
-use Rattle.demands.specs.Demands.{Rectangle, count, tablesFor, changeIn, repairOf}
+use Rattle.demands.specs.Demands.{Rectangle, count, Buffers, tablesFor, changeIn, repairOf}
 
 -- ---- "13, a bad row parity line, and 14, a bad column parity line": those of row k and of column k are correct lines
 abbrev pub RowCorrect : Rectangle → ℕ → Type 0
@@ -20,30 +19,12 @@ RowCorrect r k = lineLayer .Correct (parityAddress lineLayer (row (r .columns) k
 abbrev pub ColumnCorrect : Rectangle → ℕ → Type 0
 ColumnCorrect r k = lineLayer .Correct (parityAddress lineLayer (column (r .rows) (r .columns) k)) (placesAt (r .columnTable) k)
 
--- ---- "the number of the first bad row or column is returned with it": it is one of so many, it is bad, and those before it are correct
-pub record FirstBad (Good : ℕ → Type 0) (total number : ℕ) : Type 0 where
-  pub inside : number < total
-  pub bad : Good number → ⊥
-  pub before : (k : ℕ) → k < number → Good k
-
+-- ---- "the number of the first bad row or column is returned with it, otherwise 0": a change tests its own row and column alone
 -- "otherwise 0": with any other answer than 13 and 14
 abbrev pub OtherwiseZero : ℕ → ℕ → Type 0
 OtherwiseZero answer number = (answer ≡ 13 → ⊥) → (answer ≡ 14 → ⊥) → number ≡ 0
 
--- what repair's answer and number tell, "rows tested first"
-pub record RepairNames (r : Rectangle) (given : StoreRepaired) : Type 0 where
-  pub row : given .answer ≡ 13 → FirstBad (RowCorrect r) (r .rows) (given .number)
-  pub column : given .answer ≡ 14 → FirstBad (ColumnCorrect r) (r .columns) (given .number)
-  pub rowsFirst : given .answer ≡ 14 → (k : ℕ) → k < r .rows → RowCorrect r k
-  pub otherwise : OtherwiseZero (given .answer) (given .number)
-  -- where lines and marks are handed over, no table needs to be reloaded
-  pub rowsCorrect : handsOver (given .answer) ≡ true → (k : ℕ) → k < r .rows → RowCorrect r k
-  pub columnsCorrect : handsOver (given .answer) ≡ true → (k : ℕ) → k < r .columns → ColumnCorrect r k
-
-abbrev pub RepairNamesFirstBad : Type 0
-RepairNamesFirstBad = (r : Rectangle) (out marks : List ℕ) → RepairNames r (repairOf r out marks)
-
--- and a change's, of line n's own row and column
+-- what a change's answer and number tell, of line n's own row and column
 pub record ChangeNames (r : Rectangle) (n : ℕ) (given : LineChanged) : Type 0 where
   pub row : given .answer ≡ 13 → (given .number ≡ n / r .columns) × (RowCorrect r (given .number) → ⊥)
   pub column : given .answer ≡ 14 → (given .number ≡ n % r .columns) × (ColumnCorrect r (given .number) → ⊥)
@@ -64,11 +45,6 @@ pub record Fits (r : Rectangle) : Type 0 where
   pub tableBytes : tablesFit (r .rows) (r .columns) (r .rowTable) (r .columnTable) ≡ true
 
 pub record BadRefused : Type 0 where
-  pub repairRow : (r : Rectangle) → Fits r → (out marks : List ℕ) → holds (count r) out ≡ true → length marks ≡ count r
-      → (k : ℕ) → k < r .rows → (RowCorrect r k → ⊥) → repairOf r out marks .answer ≡ 13
-  pub repairColumn : (r : Rectangle) → Fits r → (out marks : List ℕ) → holds (count r) out ≡ true → length marks ≡ count r
-      → ((k : ℕ) → k < r .rows → RowCorrect r k)
-      → (k : ℕ) → k < r .columns → (ColumnCorrect r k → ⊥) → repairOf r out marks .answer ≡ 14
   pub changeRow : (r : Rectangle) → Fits r → (n : ℕ) (payload : List ℕ) → length payload ≡ dataBytes → n < count r
       → (RowCorrect r (n / r .columns) → ⊥) → changeIn r n payload .answer ≡ 13
   pub changeColumn : (r : Rectangle) → Fits r → (n : ℕ) (payload : List ℕ) → length payload ≡ dataBytes → n < count r
@@ -79,10 +55,14 @@ pub record BadRefused : Type 0 where
 pub record AnswersGiven : Type 0 where
   pub tables : (r : Rectangle) (oldRows oldColumns : List ℕ) → tablesFor r oldRows oldColumns .answer ∈ tablesAnswers
   pub change : (r : Rectangle) (n : ℕ) (payload : List ℕ) → changeIn r n payload .answer ∈ changeAnswers
-  pub repair : (r : Rectangle) (out marks : List ℕ) → repairOf r out marks .answer ∈ repairAnswers
+  pub repair : (r : Rectangle) (b : Buffers) → repairOf r b .answer ∈ repairAnswers
 
--- and 9 is in none of the three lists
+-- and 9 is in none of the three lists, nor are 13 and 14 in repair's: request Q-3, "repair no longer gives 13 or 14"
 pub record NineNotGiven : Type 0 where
   pub tables : (r : Rectangle) (oldRows oldColumns : List ℕ) → tablesFor r oldRows oldColumns .answer ≡ 9 → ⊥
   pub change : (r : Rectangle) (n : ℕ) (payload : List ℕ) → changeIn r n payload .answer ≡ 9 → ⊥
-  pub repair : (r : Rectangle) (out marks : List ℕ) → repairOf r out marks .answer ≡ 9 → ⊥
+  pub repair : (r : Rectangle) (b : Buffers) → repairOf r b .answer ≡ 9 → ⊥
+
+pub record NeitherByRepair : Type 0 where
+  pub thirteen : (r : Rectangle) (b : Buffers) → repairOf r b .answer ≡ 13 → ⊥
+  pub fourteen : (r : Rectangle) (b : Buffers) → repairOf r b .answer ≡ 14 → ⊥
