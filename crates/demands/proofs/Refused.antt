@@ -10,12 +10,12 @@ use Rattle.scheme.specs.Layer.{readLine}
 use Rattle.scheme.specs.Visit.{Group, State}
 use Rattle.scheme.specs.Repair.{pass, agrees, answer, faultyCount}
 use Rattle.scheme.proofs.Passes.{repair-end}
-use Rattle.rectangle.specs.Store.{lineLayer, linesIn, groups}
+use Rattle.rectangle.specs.Store.{lineLayer, linesIn}
 use Rattle.rectangle.specs.Refusals.{tablesRefusal, changeRefusal, repairRefusal}
 use Rattle.rectangle.specs.Tables.{TablesMade}
 use Rattle.rectangle.specs.Change.{LineChanged}
-use Rattle.rectangle.specs.Repair.{repaired, handsOver, handedOver, repairNumber}
-use Rattle.demands.specs.Demands.{Rectangle, count, tablesFor, changeIn, repairOf, stepsOn, RefusalsWriteNothing, HandsOverAsLeft, GivenUpLast}
+use Rattle.rectangle.specs.Repair.{repairedBy, handsOver, handedOver}
+use Rattle.demands.specs.Demands.{Rectangle, count, Buffers, tablesFor, changeIn, repairOf, groupsOf, stepsOn, RefusalsWriteNothing, HandsOverAsLeft, GivenUpLast}
 use Rattle.rectangle.proofs.Runs.{zero-or-not, answer-hands-over, refusal-hands-nothing, tables-run, tables-refused, change-runs, change-refused, repair-runs, repair-refused}
 
 -- 11 where faulty lines are left
@@ -27,61 +27,62 @@ answer-left gs s e z = go (agrees gs s) (rw (eq-eqb (faultyCount s) 0 z) at e)
     go true f = omega arith
     go false f = omega arith
 
-module _ (r : Rectangle) (out marks : List ℕ) where
+module _ (r : Rectangle) (b : Buffers) where
   unfoldable pub refusal : ℕ
-  refusal = repairRefusal (r .rows) (r .columns) (r .lines) (r .rowTable) (r .columnTable) out marks
+  refusal =
+      repairRefusal (r .rows) (r .columns) (r .lines) (r .rowTable) (r .columnTable) (b .lines) (b .marks) (b .rowTable) (b .columnTable)
 
-  pub runs : refusal ≡ 0
-      → repairOf r out marks ≡ handedOver (groups (r .rows) (r .columns) (r .rowTable) (r .columnTable)) (stepsOn r)
+  pub runs : refusal ≡ 0 → repairOf r b ≡ handedOver lineLayer (r .rows) (r .columns) (r .rowTable) (r .columnTable) (stepsOn r)
   unfolding repairOf refusal
-  runs = repair-runs (r .rows) (r .columns) (r .lines) (r .rowTable) (r .columnTable) out marks _ refl
+  runs =
+      repair-runs (r .rows) (r .columns) (r .lines) (r .rowTable) (r .columnTable) lineLayer (b .lines) (b .marks) (b .rowTable)
+      (b .columnTable) _ refl
 
   pub refused : (refusal ≡ 0 → ⊥)
-      → repairOf r out marks
+      → repairOf r b
       ≡ record {
         answer = refusal;
         passes = 0;
-        number = repairNumber refusal (r .rows) (r .columns) (r .rowTable) (r .columnTable);
-        lines = out;
-        marks = marks;
+        lines = b .lines;
+        marks = b .marks;
+        rowTable = b .rowTable;
+        columnTable = b .columnTable;
       }
   unfolding repairOf refusal
-  refused = repair-refused (r .rows) (r .columns) (r .lines) (r .rowTable) (r .columnTable) out marks _ refl
+  refused =
+      repair-refused (r .rows) (r .columns) (r .lines) (r .rowTable) (r .columnTable) lineLayer (b .lines) (b .marks) (b .rowTable)
+      (b .columnTable) _ refl
 
-  refused-hands-nothing : (refusal ≡ 0 → ⊥) → handsOver (repairOf r out marks .answer) ≡ false
+  refused-hands-nothing : (refusal ≡ 0 → ⊥) → handsOver (repairOf r b .answer) ≡ false
   unfolding refusal
   refused-hands-nothing d =
-      rw (refused d) (refusal-hands-nothing (r .rows) (r .columns) (r .lines) (r .rowTable) (r .columnTable) out marks d)
+      rw (refused d)
+      (refusal-hands-nothing (r .rows) (r .columns) (r .lines) (r .rowTable) (r .columnTable) (b .lines) (b .marks) (b .rowTable)
+      (b .columnTable) d)
 
   -- an answer that hands over is the steps' own
-  pub not-refused : handsOver (repairOf r out marks .answer) ≡ true
-      → repairRefusal (r .rows) (r .columns) (r .lines) (r .rowTable) (r .columnTable) out marks ≡ 0
-  unfolding refusal
+  pub not-refused : handsOver (repairOf r b .answer) ≡ true → refusal ≡ 0
   not-refused h = go (zero-or-not refusal)
     where
       go : (refusal ≡ 0) ⊎ (refusal ≡ 0 → ⊥) → refusal ≡ 0
       go (inl z) = z
       go (inr d) = absurd (true≢false (sym h ∙ refused-hands-nothing d))
 
-  pub handed : handsOver (repairOf r out marks .answer) ≡ true
-      → repairOf r out marks ≡ handedOver (groups (r .rows) (r .columns) (r .rowTable) (r .columnTable)) (stepsOn r)
-  unfolding refusal
+  pub handed : handsOver (repairOf r b .answer) ≡ true
+      → repairOf r b ≡ handedOver lineLayer (r .rows) (r .columns) (r .rowTable) (r .columnTable) (stepsOn r)
   handed h = runs (not-refused h)
 
-  writes-nothing : handsOver (repairOf r out marks .answer) ≡ false
-      → (repairOf r out marks .lines ≡ out) × (repairOf r out marks .marks ≡ marks) × (repairOf r out marks .passes ≡ 0)
+  writes-nothing : handsOver (repairOf r b .answer) ≡ false
+      → (repairOf r b .lines ≡ b .lines) × (repairOf r b .marks ≡ b .marks)
+      × (repairOf r b .rowTable ≡ b .rowTable) × (repairOf r b .columnTable ≡ b .columnTable) × (repairOf r b .passes ≡ 0)
   unfolding handedOver
   writes-nothing h = go (zero-or-not refusal)
     where
-      steps-answer : refusal ≡ 0 → handsOver (repairOf r out marks .answer) ≡ true
-      steps-answer z =
-          rw (runs z)
-          (answer-hands-over (groups (r .rows) (r .columns) (r .rowTable) (r .columnTable)) (stepsOn r .cells))
-
       go : (refusal ≡ 0) ⊎ (refusal ≡ 0 → ⊥)
-          → (repairOf r out marks .lines ≡ out) × (repairOf r out marks .marks ≡ marks) × (repairOf r out marks .passes ≡ 0)
-      go (inl z) = absurd (true≢false (sym (steps-answer z) ∙ h))
-      go (inr d) = rw (refused d) (refl, refl, refl)
+          → (repairOf r b .lines ≡ b .lines) × (repairOf r b .marks ≡ b .marks)
+          × (repairOf r b .rowTable ≡ b .rowTable) × (repairOf r b .columnTable ≡ b .columnTable) × (repairOf r b .passes ≡ 0)
+      go (inl z) = absurd (true≢false (sym (rw (runs z) (answer-hands-over (groupsOf r) (stepsOn r .cells))) ∙ h))
+      go (inr d) = rw (refused d) (refl, refl, refl, refl, refl)
 
 pub refusalsWriteNothing : RefusalsWriteNothing
 unfolding tablesFor changeIn
@@ -122,21 +123,19 @@ refusalsWriteNothing = record { tables = tables; change = change; repair = write
 
 pub handsOverAsLeft : HandsOverAsLeft
 unfolding handedOver
-handsOverAsLeft r out marks h = rw (handed r out marks h) (refl, refl)
+handsOverAsLeft r b h = rw (handed r b h) (refl, refl)
 
 pub givenUpLast : GivenUpLast
-unfolding handedOver repaired handsOver
-givenUpLast r out marks e = go (repair-end (readLine lineLayer) gs (linesIn (count r) (r .lines)))
+unfolding handedOver repairedBy handsOver
+givenUpLast r b e = go (repair-end (readLine lineLayer) (groupsOf r) (linesIn (count r) (r .lines)))
   where
-    gs : List Group
-    gs = groups (r .rows) (r .columns) (r .rowTable) (r .columnTable)
-
     end : State
     end = stepsOn r .cells
 
-    eleven : answer gs end ≡ 11
-    eleven = rw (handed r out marks (ap handsOver e)) at e
+    eleven : answer (groupsOf r) end ≡ 11
+    eleven = rw (handed r b (ap handsOver e)) at e
 
-    go : (faultyCount end ≡ 0) ⊎ (pass (readLine lineLayer) gs end ≡ end) → pass (readLine lineLayer) gs end ≡ end
-    go (inl z) = absurd (answer-left gs end eleven z)
+    go : (faultyCount end ≡ 0) ⊎ (pass (readLine lineLayer) (groupsOf r) end ≡ end)
+        → pass (readLine lineLayer) (groupsOf r) end ≡ end
+    go (inl z) = absurd (answer-left (groupsOf r) end eleven z)
     go (inr p) = p
