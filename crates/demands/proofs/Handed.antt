@@ -2,8 +2,7 @@
 use mathlib.Core.Path.{_≡_, refl, sym, ap, _∙_}
 use mathlib.Core.Bool.{Bool, true, false, cond}
 use mathlib.Core.List.{List, [], _∷_, map}
-use Prim.Native.Nat.{ℕ, zero, suc, _*_, _<_}
-use native.Mathlib.Nat.{le-of-suc-le-suc, not-suc-le-zero}
+use Prim.Native.Nat.{ℕ, suc, _*_, _<_}
 use native.Mathlib.Omega.{arith}
 use borrow.Author.Tests.{eqb-false, not-true}
 use lib.ListN.{length, getD, length-map, List·getD-map}
@@ -11,18 +10,19 @@ use Rattle.gf2.specs.Word.{Word}
 use Rattle.linecode.specs.Places.{lineBytes, lineOf}
 use Rattle.linecode.specs.Code.{upFrom}
 use Rattle.scheme.specs.Layer.{Cell, readLine, Promises}
-use Rattle.scheme.specs.Visit.{Group, State, cellAt, lineAt, isFaulty, select}
+use Rattle.scheme.specs.Visit.{State, cellAt, lineAt, isFaulty, select}
 use Rattle.scheme.specs.Repair.{readAll, faultyCount, linesOf, marksOf}
 use Rattle.scheme.proofs.Passes.{repair-passes-none, repair-passes-bound}
 use Rattle.scheme.proofs.Stays.{first-reading-at, repair-stays, repair-length, faulty-as-found}
-use Rattle.rectangle.specs.Store.{lineLayer, bytesAt, placesAt, linesIn, bufferOf, aloneAt, groups}
+use Rattle.rectangle.specs.Store.{lineLayer, bytesAt, placesAt, linesIn, bufferOf, aloneAt}
 use Rattle.rectangle.specs.Refusals.{sidesFit, holds, acceptedAt, repairRefusal}
-use Rattle.rectangle.specs.Repair.{repaired, handsOver, handedOver}
-use Rattle.demands.specs.Demands.{Rectangle, count, repairOf, stepsOn, faultyAlone, PassesOf, PassesReturned, GivenAsRead, AcceptedNeverAltered, FaultyAsFound}
+use Rattle.rectangle.specs.Repair.{repairedBy, handsOver, handedOver}
+use Rattle.demands.specs.Demands.{Rectangle, count, Buffers, repairOf, groupsOf, stepsOn, faultyAlone, PassesOf, PassesReturned, GivenAsRead, AcceptedNeverAltered, FaultyAsFound}
 use Rattle.rectangle.proofs.Alone.{read-from}
 use Rattle.rectangle.proofs.Buffer.{holds-length, length-placesAt, length-linesIn, linesIn-at, bytesAt-bufferOf}
 use Rattle.rectangle.proofs.Tests.{passed}
-use Rattle.demands.proofs.Refused.{not-refused, handed}
+use Rattle.demands.proofs.Refused.{refusal, not-refused, handed}
+use Rattle.demands.proofs.TableLines.{in-range}
 
 -- counting those of an image that pass a test
 count-map : (cell : ℕ → Cell) (ns : List ℕ) → faultyCount (map cell ns) ≡ length (select (λ n. isFaulty (cell n)) ns)
@@ -36,11 +36,6 @@ count-map cell (n ∷ ns) = go (isFaulty (cell n)) (count-map cell ns)
     go false e = e
 
 -- ---- line n of the buffers handed over
-in-range : {A : Type 0} (l : List A) (n : ℕ) (d e : A) → n < length l → getD l n d ≡ getD l n e
-in-range [] n d e h = absurd (not-suc-le-zero h)
-in-range (a ∷ l) zero d e h = refl
-in-range (a ∷ l) (suc n) d e h = in-range l n d e (le-of-suc-le-suc h)
-
 module _ (s : State) (n : ℕ) (inside : n < length s) where
   pub line-handed : bytesAt (bufferOf (linesOf s)) n ≡ lineOf (lineAt s n)
   line-handed =
@@ -54,9 +49,6 @@ module _ (s : State) (n : ℕ) (inside : n < length s) where
       ∙ ap (λ (c : Cell). c .mark) (in-range s n _ _ inside)
 
 module _ (r : Rectangle) where
-  unfoldable pub gs : List Group
-  gs = groups (r .rows) (r .columns) (r .rowTable) (r .columnTable)
-
   unfoldable pub found : List Word
   found = linesIn (count r) (r .lines)
 
@@ -68,11 +60,11 @@ module _ (r : Rectangle) where
   first-count = ap faultyCount (read-from (r .lines) 0 (count r)) ∙ count-map (aloneAt (r .lines)) (upFrom 0 (count r))
 
   steps-passes : PassesOf r (stepsOn r .passes)
-  unfolding gs found repaired
+  unfolding found repairedBy
   steps-passes =
       record {
-        none = rw (← first-count) (repair-passes-none (readLine lineLayer) gs found);
-        most = omega (arith, first-count, repair-passes-bound (readLine lineLayer) gs found);
+        none = rw (← first-count) (repair-passes-none (readLine lineLayer) (groupsOf r) found);
+        most = omega (arith, first-count, repair-passes-bound (readLine lineLayer) (groupsOf r) found);
       }
 
   module _ (n : ℕ) (h : n < count r) where
@@ -81,13 +73,13 @@ module _ (r : Rectangle) where
     within = omega (arith, length-linesIn (count r) (r .lines))
 
     pub within-end : n < length end
-    unfolding end gs found repaired
-    within-end = omega (arith, within, repair-length (readLine lineLayer) gs found)
+    unfolding end found repairedBy
+    within-end = omega (arith, within, repair-length (readLine lineLayer) (groupsOf r) found)
 
     pub accepted-stays : acceptedAt (r .lines) n ≡ true → cellAt end n ≡ aloneAt (r .lines) n
-    unfolding end gs found repaired acceptedAt aloneAt
+    unfolding end found repairedBy acceptedAt aloneAt
     accepted-stays a =
-        repair-stays (readLine lineLayer) gs found .accepted n
+        repair-stays (readLine lineLayer) (groupsOf r) found .accepted n
         (λ e. eqb-false _ 4 (not-true _ a) (ap (λ (c : Cell). c .mark) (sym alone) ∙ e))
         ∙ alone
       where
@@ -96,11 +88,11 @@ module _ (r : Rectangle) where
             first-reading-at (readLine lineLayer) found n within
             ∙ ap (readLine lineLayer n) (linesIn-at (count r) (r .lines) n h)
 
-    given-as-read : (out marks : List ℕ) → handsOver (repairOf r out marks .answer) ≡ true → acceptedAt (r .lines) n ≡ true
-        → GivenAsRead r (repairOf r out marks) n
+    given-as-read : (b : Buffers) → handsOver (repairOf r b .answer) ≡ true → acceptedAt (r .lines) n ≡ true
+        → GivenAsRead r (repairOf r b) n
     unfolding end handedOver
-    given-as-read out marks o a =
-        rw (handed r out marks o)
+    given-as-read b o a =
+        rw (handed r b o)
         (record {
           line = line-handed end n within-end ∙ ap (λ (c : Cell). lineOf (c .line)) (accepted-stays a);
           mark = mark-handed end n within-end 4 ∙ ap (λ (c : Cell). c .mark) (accepted-stays a);
@@ -108,36 +100,36 @@ module _ (r : Rectangle) where
 
 pub passesReturned : PassesReturned
 unfolding handedOver
-passesReturned r out marks o = rw (handed r out marks o) (steps-passes r)
+passesReturned r b o = rw (handed r b o) (steps-passes r)
 
 pub acceptedNeverAltered : AcceptedNeverAltered
-acceptedNeverAltered r out marks o n h a = given-as-read r n h out marks o a
+acceptedNeverAltered r b o n h a = given-as-read r n h b o a
 
 -- the layer gives back a faulty line as found, if it has all places: refusal 5 saw to that
-module _ (promises : Promises lineLayer) (r : Rectangle) (out marks : List ℕ)
-    (over : handsOver (repairOf r out marks .answer) ≡ true) where
+module _ (promises : Promises lineLayer) (r : Rectangle) (b : Buffers)
+    (over : handsOver (repairOf r b .answer) ≡ true) where
   pub line-bytes : length (r .lines) ≡ count r * lineBytes
-  unfolding repairRefusal
+  unfolding refusal repairRefusal
   line-bytes =
-      let two = passed (sidesFit (r .rows) (r .columns)) 2 _ (λ z. omega arith) (not-refused r out marks over) in
+      let two = passed (sidesFit (r .rows) (r .columns)) 2 _ (λ z. omega arith) (not-refused r b over) in
       let five = passed (holds (count r) (r .lines)) 5 _ (λ z. omega arith) (two .1) in
       holds-length (count r) (r .lines) (five .0)
 
   module _ (n : ℕ) (h : n < count r) where
     faulty-given : cellAt (end r) n .mark ≡ 4 → lineAt (end r) n ≡ placesAt (r .lines) n
-    unfolding end gs found repaired
+    unfolding end found repairedBy
     faulty-given e =
-        faulty-as-found lineLayer promises (gs r) (found r) n (within r n h)
+        faulty-as-found lineLayer promises (groupsOf r) (found r) n (within r n h)
         (ap length (linesIn-at (count r) (r .lines) n h) ∙ length-placesAt (count r) (r .lines) line-bytes n h) e
         ∙ linesIn-at (count r) (r .lines) n h
 
-    given-as-found : getD (repairOf r out marks .marks) n 0 ≡ 4
-        → bytesAt (repairOf r out marks .lines) n ≡ lineOf (placesAt (r .lines) n)
+    given-as-found : getD (repairOf r b .marks) n 0 ≡ 4
+        → bytesAt (repairOf r b .lines) n ≡ lineOf (placesAt (r .lines) n)
     unfolding end handedOver
     given-as-found e =
-        rw (handed r out marks over)
+        rw (handed r b over)
         (line-handed (end r) n (within-end r n h)
-        ∙ ap lineOf (faulty-given (sym (mark-handed (end r) n (within-end r n h) 0) ∙ (rw (handed r out marks over) at e))))
+        ∙ ap lineOf (faulty-given (sym (mark-handed (end r) n (within-end r n h) 0) ∙ (rw (handed r b over) at e))))
 
 pub faultyAsFound : Promises lineLayer → FaultyAsFound
-faultyAsFound promises r out marks over n h e = given-as-found promises r out marks over n h e
+faultyAsFound promises r b over n h e = given-as-found promises r b over n h e

@@ -19,7 +19,7 @@ use Rattle.demands.specs.Demands.{Rectangle, count, Buffers, tablesFor, 
 use Rattle.rectangle.proofs.Runs.{zero-or-not, answer-hands-over, refusal-hands-nothing, tables-run, tables-refused, change-runs, change-refused, repair-runs, repair-refused}
 
 -- 11 where faulty lines are left
-answer-left : (gs : List Group) (s : State) → answer gs s ≡ 11 → faultyCount s ≡ 0 → ⊥
+pub answer-left : (gs : List Group) (s : State) → answer gs s ≡ 11 → faultyCount s ≡ 0 → ⊥
 unfolding answer
 answer-left gs s e z = go (agrees gs s) (rw (eq-eqb (faultyCount s) 0 z) at e)
   where
