@@ -12,9 +12,10 @@ use Rattle.gf2.specs.Word.{Word}
 use Rattle.linecode.specs.Code.{upFrom}
 use Rattle.scheme.specs.Visit.{Group}
 use Rattle.scheme.specs.Demand3.{_∈_, Rising, RisingGroups}
+use Rattle.scheme.proofs.Lists.{in-map, map-from}
 use Rattle.rectangle.specs.Store.{placesAt, stride, row, column, rowGroup, columnGroup, groups}
 use Rattle.rectangle.specs.Refusals.{sideFits, sidesFit}
-use Rattle.rectangle.proofs.Members.{in-upFrom, upFrom-bounds, in-map, map-from, in-left, in-right, append-from, map-below}
+use Rattle.rectangle.proofs.Members.{in-upFrom, upFrom-bounds, in-left, in-right, append-from, map-below}
 use Rattle.rectangle.proofs.Stride.{in-stride, stride-index, rising-stride}
 
 -- rows and columns as refusal 2 asks for

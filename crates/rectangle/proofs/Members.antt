@@ -1,4 +1,4 @@
--- Membership in numbers counted upward, in an image and in two lists one after the other.
+-- Membership in numbers counted upward and in two lists one after the other, and images of numbers counted upward.
 use mathlib.Core.Path.{_≡_, refl, sym, ap, ap₂, _∙_}
 use mathlib.Core.Logic.{_⊎_, inl, inr}
 use mathlib.Core.List.{List, [], _∷_, _++_, map}
@@ -29,17 +29,7 @@ map-upFrom f n zero i d h = absurd (not-suc-le-zero h)
 map-upFrom f n (suc k) zero d h = ap f (omega arith)
 map-upFrom f n (suc k) (suc i) d h = map-upFrom f (suc n) k i d (le-of-suc-le-suc h) ∙ ap f (suc-add n i ∙ sym (add-suc n i))
 
--- ---- membership in an image
-pub in-map : {A : Type 0} (f : ℕ → A) (ns : List ℕ) (n : ℕ) → n ∈ ns → f n ∈ map f ns
-in-map f [] n i = absurd i
-in-map f (m ∷ ns) n (inl e) = inl (ap f e)
-in-map f (m ∷ ns) n (inr i) = inr (in-map f ns n i)
-
-pub map-from : {A : Type 0} (f : ℕ → A) (ns : List ℕ) (a : A) → a ∈ map f ns → (n : ℕ) × (n ∈ ns) × (a ≡ f n)
-map-from f [] a i = absurd i
-map-from f (m ∷ ns) a (inl e) = (m, inl refl, e)
-map-from f (m ∷ ns) a (inr i) = let r = map-from f ns a i in (r .0, inr (r .1), r .2)
-
+-- ---- the images of numbers counted upward
 map-same : {A : Type 0} (f g : ℕ → A) (ns : List ℕ) → ((n : ℕ) → n ∈ ns → f n ≡ g n) → map f ns ≡ map g ns
 map-same f g [] h = refl
 map-same f g (n ∷ ns) h = ap₂ (λ a l. a ∷ l) (h n (inl refl)) (map-same f g ns (λ m i. h m (inr i)))

@@ -1,8 +1,8 @@
--- Membership in what a test selects, and rising lists.
+-- Membership in what a test selects and in an image, and rising lists.
 use mathlib.Core.Path.{_≡_, refl, sym, ap, _∙_}
 use mathlib.Core.Logic.{inl, inr}
 use mathlib.Core.Bool.{Bool, true, false, cond}
-use mathlib.Core.List.{List, [], _∷_}
+use mathlib.Core.List.{List, [], _∷_, map}
 use Prim.Native.Nat.{ℕ, _≤_}
 use native.Mathlib.Omega.{arith}
 use lib.ListN.{length}
@@ -30,6 +30,17 @@ module _ {A : Type 0} (test : A → Bool) where
       go : (t : Bool) → a ∈ select test l → a ∈ cond t (b ∷ select test l) (select test l)
       go true r = inr r
       go false r = r
+
+module _ {A B : Type 0} (f : A → B) where
+  pub in-map : (l : List A) (a : A) → a ∈ l → f a ∈ map f l
+  in-map [] a i = absurd i
+  in-map (b ∷ l) a (inl e) = inl (ap f e)
+  in-map (b ∷ l) a (inr i) = inr (in-map l a i)
+
+  pub map-from : (l : List A) (b : B) → b ∈ map f l → (a : A) × (a ∈ l) × (b ≡ f a)
+  map-from [] b i = absurd i
+  map-from (a ∷ l) b (inl e) = (a, inl refl, e)
+  map-from (a ∷ l) b (inr i) = let r = map-from l b i in (r .0, inr (r .1), r .2)
 
 pub rising-select : (test : ℕ → Bool) (ns : List ℕ) → Rising ns → Rising (select test ns)
 rising-select test [] r = tt
