@@ -1,26 +1,23 @@
--- Request Q-2: 13 and 14 name the first bad row or column, a number comes with no other answer, and 9 is not given.
+-- Request Q-2: a change's 13 and 14 name its own bad row or column, a number comes with no other answer, 9 is not given, and repair gives
+-- neither 13 nor 14.
 use mathlib.Core.Path.{_≡_, refl, sym, ap, _∙_}
 use mathlib.Core.Logic.{_⊎_, _↔_, inl, inr}
-use mathlib.Core.Bool.{Bool, true, false, _&&_, true≢false}
-use mathlib.Core.List.{List, map}
+use mathlib.Core.Bool.{Bool, true, false, true≢false}
+use mathlib.Core.List.{List}
 use Prim.Native.Nat.{ℕ, _/_, _%_, _<_}
 use native.Mathlib.Omega.{arith}
 use borrow.Author.Tests.{eq-eqb, ne-eqb, lt-ltb}
 use lib.Dec.{eqb, ltb}
 use lib.ListN.{length}
 use Rattle.linecode.specs.Places.{dataBytes}
-use Rattle.linecode.specs.Code.{upFrom}
-use Rattle.rectangle.specs.Store.{rowGroup, columnGroup, rowGroups, columnGroups}
-use Rattle.rectangle.specs.Refusals.{unless, every, firstFailing, holds, parityCorrect, parityRefusal, acceptedAt, tablesAnswers, changeRefusal, changeAnswers, repairRefusal, repairAnswers, numberWith}
-use Rattle.rectangle.specs.Repair.{StoreRepaired, handsOver, handedOver, repairNumber}
+use Rattle.rectangle.specs.Store.{rowGroup, columnGroup}
+use Rattle.rectangle.specs.Refusals.{unless, parityCorrect, parityRefusal, acceptedAt, tablesAnswers, changeRefusal, changeAnswers, repairAnswers, numberWith}
 use Rattle.demands.specs.Demands.{Rectangle, count, tablesFor, changeIn, repairOf}
-use Rattle.demands.specs.Reload.{RowCorrect, ColumnCorrect, FirstBad, Fits, BadRefused, RepairNames, RepairNamesFirstBad, ChangeNames, ChangeNamesOwn, AnswersGiven, NineNotGiven}
+use Rattle.demands.specs.Reload.{RowCorrect, ColumnCorrect, Fits, BadRefused, ChangeNames, ChangeNamesOwn, AnswersGiven, NineNotGiven, NeitherByRepair}
 use Rattle.rectangle.proofs.LineLayer.{parity-tests}
-use Rattle.rectangle.proofs.Tests.{every-image, image-every, image-fails, passed, row-fails, column-fails, both-pass, not-among}
+use Rattle.rectangle.proofs.Tests.{passed, row-fails, column-fails, both-pass, not-among}
 use Rattle.rectangle.proofs.Refusing.{sizes-past}
-use Rattle.rectangle.proofs.First.{first-of, all-pass, inside}
-use Rattle.rectangle.proofs.Runs.{zero-or-not, answer-hands-over, change-runs, change-refused, tables-answers, change-answers, repair-answers}
-use Rattle.demands.proofs.Refused.{refusal, runs, refused, not-refused}
+use Rattle.rectangle.proofs.Runs.{zero-or-not, change-runs, change-refused, tables-answers, change-answers, repair-answers}
 
 -- ---- what a test that fails tells, and what makes it fail
 refutes : {b : Bool} {Good : Type 0} → (b ≡ true) ↔ Good → b ≡ false → Good → ⊥
@@ -29,20 +26,6 @@ refutes tells e g = true≢false (sym (tells .1 g) ∙ e)
 fails : (b : Bool) {Good : Type 0} → (b ≡ true) ↔ Good → (Good → ⊥) → b ≡ false
 fails true tells d = absurd (d (tells .0 refl))
 fails false tells d = refl
-
--- the first that fails a test is the first that is not as the test asks
-module _ {A : Type 0} (test : A → Bool) (f : ℕ → A) (Good : ℕ → Type 0) (tells : (k : ℕ) → (test (f k) ≡ true) ↔ Good k) (n : ℕ) where
-  first-bad : every test (map f (upFrom 0 n)) ≡ false → FirstBad Good n (firstFailing test (map f (upFrom 0 n)))
-  first-bad e =
-      let below = inside test f n (λ all. true≢false (sym (all-pass test f n all) ∙ e)) in
-      record {
-        inside = below;
-        bad = refutes (tells _) (first-of test f n .fails below);
-        before = λ k h. tells k .0 (first-of test f n .before k h);
-      }
-
-  all-good : every test (map f (upFrom 0 n)) ≡ true → (k : ℕ) → k < n → Good k
-  all-good e k h = tells k .0 (image-every test f n e k h)
 
 -- with another answer the number is 0
 no-number : (a i j : ℕ) → (a ≡ 13 → ⊥) → (a ≡ 14 → ⊥) → numberWith a i j ≡ 0
@@ -55,76 +38,6 @@ module _ (r : Rectangle) where
 
   column-tells : (k : ℕ) → (parityCorrect (columnGroup (r .rows) (r .columns) (r .columnTable) k) ≡ true) ↔ ColumnCorrect r k
   column-tells k = parity-tests (columnGroup (r .rows) (r .columns) (r .columnTable) k)
-
-  -- ---- repair
-  abbrev rowsPass : Bool
-  rowsPass = every parityCorrect (rowGroups (r .rows) (r .columns) (r .rowTable))
-
-  abbrev columnsPass : Bool
-  columnsPass = every parityCorrect (columnGroups (r .rows) (r .columns) (r .columnTable))
-
-  module _ (out marks : List ℕ) where
-    -- an answer that is not 2 to 7 comes past the sizes
-    parity-decides : (a : ℕ) → ((k : ℕ) → k < 8 → 0 < k → k ≡ a → ⊥) → refusal r out marks ≡ a → parityRefusal rowsPass columnsPass 0 ≡ a
-    unfolding refusal repairRefusal
-    parity-decides a other e =
-        let six = sizes-past (r .rows) (r .columns) (r .lines) (r .rowTable) (r .columnTable) a _ (λ k l h. other k (omega arith) (omega arith)) e in
-        passed (holds (count r) out && eqb (length marks) (count r)) 7 _ (other 7 (omega arith) (omega arith)) (six .1) .1
-
-    -- an answer that hands nothing over is the refusal's, with the refusal's number
-    turned : (a : ℕ) → handsOver a ≡ false → repairOf r out marks .answer ≡ a
-        → (refusal r out marks ≡ a) × (repairOf r out marks .number ≡ repairNumber a (r .rows) (r .columns) (r .rowTable) (r .columnTable))
-    unfolding handedOver
-    turned a h e = go (zero-or-not (refusal r out marks))
-      where
-        go : (refusal r out marks ≡ 0) ⊎ (refusal r out marks ≡ 0 → ⊥)
-            → (refusal r out marks ≡ a) × (repairOf r out marks .number ≡ repairNumber a (r .rows) (r .columns) (r .rowTable) (r .columnTable))
-        go (inl z) = absurd (true≢false (sym (answer-hands-over _ _) ∙ ap handsOver (rw (runs r out marks z) at e) ∙ h))
-        go (inr d) =
-            let is : refusal r out marks ≡ a = rw (refused r out marks d) at e in
-            (is, rw (refused r out marks d) (ap (λ (b : ℕ). repairNumber b (r .rows) (r .columns) (r .rowTable) (r .columnTable)) is))
-
-    -- 13 and 14 come with the number of the first that is bad
-    names : RepairNames r (repairOf r out marks)
-    unfolding refusal handsOver handedOver repairNumber numberWith
-    names =
-        record {
-          row = λ e.
-              let t = turned 13 refl e in
-              rw (t .1)
-              (first-bad parityCorrect (rowGroup (r .columns) (r .rowTable)) (RowCorrect r) row-tells (r .rows)
-              (row-fails rowsPass columnsPass 0 (λ z. omega arith) (parity-decides 13 (λ k l h z. omega arith) (t .0))));
-          column = λ e.
-              let t = turned 14 refl e in
-              rw (t .1)
-              (first-bad parityCorrect (columnGroup (r .rows) (r .columns) (r .columnTable)) (ColumnCorrect r) column-tells (r .columns)
-              (column-bad (t .0) .1));
-          rowsFirst = λ e. rows-good (column-bad (turned 14 refl e .0) .0);
-          otherwise = other;
-          rowsCorrect = λ h. rows-good (none-bad (not-refused r out marks h) .0);
-          columnsCorrect = λ h.
-              all-good parityCorrect (columnGroup (r .rows) (r .columns) (r .columnTable)) (ColumnCorrect r) column-tells (r .columns)
-              (none-bad (not-refused r out marks h) .1);
-        }
-      where
-        column-bad : refusal r out marks ≡ 14 → (rowsPass ≡ true) × (columnsPass ≡ false)
-        column-bad e = column-fails rowsPass columnsPass 0 (λ z. omega arith) (parity-decides 14 (λ k l h z. omega arith) e)
-
-        none-bad : refusal r out marks ≡ 0 → (rowsPass ≡ true) × (columnsPass ≡ true)
-        none-bad e = both-pass rowsPass columnsPass 0 (parity-decides 0 (λ k l h z. omega arith) e)
-
-        rows-good : rowsPass ≡ true → (k : ℕ) → k < r .rows → RowCorrect r k
-        rows-good = all-good parityCorrect (rowGroup (r .columns) (r .rowTable)) (RowCorrect r) row-tells (r .rows)
-
-        other : (repairOf r out marks .answer ≡ 13 → ⊥) → (repairOf r out marks .answer ≡ 14 → ⊥) → repairOf r out marks .number ≡ 0
-        other d e = go (zero-or-not (refusal r out marks))
-          where
-            go : (refusal r out marks ≡ 0) ⊎ (refusal r out marks ≡ 0 → ⊥) → repairOf r out marks .number ≡ 0
-            go (inl z) = rw (runs r out marks z) refl
-            go (inr q) =
-                let is = refused r out marks q in
-                let answers = ap (λ (s : StoreRepaired). s .answer) is in
-                ap (λ (s : StoreRepaired). s .number) is ∙ no-number _ _ _ (λ z. d (answers ∙ z)) (λ z. e (answers ∙ z))
 
   -- ---- a change
   module _ (n : ℕ) (payload : List ℕ) where
@@ -184,30 +97,6 @@ module _ (r : Rectangle) where
 
 -- ---- where nothing before them is refused, a bad parity line is answered with them
 module _ (r : Rectangle) (fits : Fits r) where
-  module _ (out marks : List ℕ) (outBytes : holds (count r) out ≡ true) (markBytes : length marks ≡ count r) where
-    repair-decided : refusal r out marks ≡ parityRefusal (rowsPass r) (columnsPass r) 0
-    unfolding refusal repairRefusal
-    repair-decided = rw (fits .sides, fits .lineBytes, fits .tableBytes, outBytes, eq-eqb (length marks) (count r) markBytes)
-
-    answers-so : (a : ℕ) → 0 < a → parityRefusal (rowsPass r) (columnsPass r) 0 ≡ a → repairOf r out marks .answer ≡ a
-    answers-so a some e =
-        let is = repair-decided ∙ e in
-        ap (λ (s : StoreRepaired). s .answer) (refused r out marks (λ z. omega arith)) ∙ is
-
-    bad-row : (k : ℕ) → k < r .rows → (RowCorrect r k → ⊥) → repairOf r out marks .answer ≡ 13
-    bad-row k h d =
-        answers-so 13 (omega arith)
-        (rw (image-fails parityCorrect (rowGroup (r .columns) (r .rowTable)) (r .rows) k h (fails _ (row-tells r k) d)))
-
-    bad-column : ((k : ℕ) → k < r .rows → RowCorrect r k) → (k : ℕ) → k < r .columns → (ColumnCorrect r k → ⊥)
-        → repairOf r out marks .answer ≡ 14
-    bad-column good k h d =
-        answers-so 14 (omega arith)
-        (rw (
-          every-image parityCorrect (rowGroup (r .columns) (r .rowTable)) (r .rows) (λ j i. row-tells r j .1 (good j i)),
-          image-fails parityCorrect (columnGroup (r .rows) (r .columns) (r .columnTable)) (r .columns) k h (fails _ (column-tells r k) d),
-        ))
-
   module _ (n : ℕ) (payload : List ℕ) (payloadBytes : length payload ≡ dataBytes) (within : n < count r) where
     change-decided : turnedBack r n payload ≡ parityRefusal (rowPasses r n payload) (columnPasses r n payload) (last r n payload)
     unfolding turnedBack changeRefusal
@@ -221,10 +110,7 @@ module _ (r : Rectangle) (fits : Fits r) where
     own-column good d = changed-so r n payload .0 ∙ change-decided ∙ rw (row-tells r _ .1 good, fails _ (column-tells r _) d)
 
 pub badRefused : BadRefused
-badRefused = record { repairRow = bad-row; repairColumn = bad-column; changeRow = own-row; changeColumn = own-column }
-
-pub repairNamesFirstBad : RepairNamesFirstBad
-repairNamesFirstBad = names
+badRefused = record { changeRow = own-row; changeColumn = own-column }
 
 pub changeNamesOwn : ChangeNamesOwn
 changeNamesOwn = change-names
@@ -236,7 +122,8 @@ answersGiven =
     record {
       tables = λ r oldRows oldColumns. tables-answers (r .rows) (r .columns) (r .lines) oldRows oldColumns;
       change = λ r n payload. change-answers (r .rows) (r .columns) (r .lines) (r .rowTable) (r .columnTable) n payload;
-      repair = λ r out marks. repair-answers (r .rows) (r .columns) (r .lines) (r .rowTable) (r .columnTable) out marks;
+      repair = λ r b.
+          repair-answers (r .rows) (r .columns) (r .lines) (r .rowTable) (r .columnTable) (b .lines) (b .marks) (b .rowTable) (b .columnTable);
     }
 
 pub nineNotGiven : NineNotGiven
@@ -244,5 +131,12 @@ nineNotGiven =
     record {
       tables = λ r oldRows oldColumns. not-among 9 tablesAnswers refl (answersGiven .tables r oldRows oldColumns);
       change = λ r n payload. not-among 9 changeAnswers refl (answersGiven .change r n payload);
-      repair = λ r out marks. not-among 9 repairAnswers refl (answersGiven .repair r out marks);
+      repair = λ r b. not-among 9 repairAnswers refl (answersGiven .repair r b);
+    }
+
+pub neitherByRepair : NeitherByRepair
+neitherByRepair =
+    record {
+      thirteen = λ r b. not-among 13 repairAnswers refl (answersGiven .repair r b);
+      fourteen = λ r b. not-among 14 repairAnswers refl (answersGiven .repair r b);
     }

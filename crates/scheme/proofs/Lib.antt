@@ -1,6 +1,6 @@
 -- Laws of the SuDoku steps, over any list of groups: accepted lines stay (Stays), accepted marks decide nothing (Readings), the passes
 -- (Passes), demand 3 (ExactReturn, NotAlike), no line mended into another (NoneWrong), parity lines
--- read alone (Parity), and what these rest on.
+-- read alone (Parity, Used), and what these rest on.
 pub mod Case
 pub mod Lists
 pub mod Words
@@ -15,6 +15,7 @@ pub mod Width
 pub mod Marking
 pub mod Faithful
 pub mod Parity
+pub mod Used
 pub mod NoneWrong
 pub mod Mends
 pub mod Pair

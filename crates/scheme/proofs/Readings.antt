@@ -2,17 +2,18 @@
 use mathlib.Core.Path.{_≡_, refl, ap, ap₂}
 use mathlib.Core.Logic.{inl, ⊎-elim}
 use mathlib.Core.Bool.{Bool, true, false, cond}
-use mathlib.Core.List.{List, [], _∷_}
+use mathlib.Core.List.{List, [], _∷_, map}
 use Prim.Native.Nat.{ℕ, zero, suc}
 use native.Mathlib.Omega.{arith}
 use borrow.Author.Tests.{ne-eqb}
 use lib.Dec.{eqb}
 use lib.ListN.{length, set}
 use Rattle.gf2.specs.Word.{Word, flip}
-use Rattle.scheme.specs.Layer.{Cell, Reading}
+use Rattle.scheme.specs.Layer.{Cell, Reading, Layer, readLine, parityAddress}
 use Rattle.scheme.specs.Visit.{Group, State, cellAt, lineAt, isFaulty, faultyOf, without, sum, rebuild, rebuildOnly, settle, mismatch, tryPlaces, tryLines, triable, trial, visit}
 use Rattle.scheme.specs.Repair.{readAll, pass, faultyCount, Repaired, passesUpTo, passesFrom, repair, linesOf, agrees, answer}
-use Rattle.scheme.specs.Readings.{SameButMark, Agreeing, AcceptedMarksDecideNothing}
+use Rattle.scheme.specs.Parity.{readParity, unusable, asRead, parityAfter}
+use Rattle.scheme.specs.Readings.{SameButMark, Agreeing, AgreeingLayers, AcceptedMarksDecideNothing}
 use Rattle.scheme.proofs.Sums.{sum-ext}
 
 -- a choice by equal tests keeps a relation that holds between both ways
@@ -128,12 +129,41 @@ module _ {one two : Reading} (agree : Agreeing one two) where
   alike-repair gs found =
       let a = alike-reading 0 found in rw (alike-count a) (alike-passes (faultyCount (readAll two 0 found)) gs a)
 
+-- ---- the same for two layers that agree, which read the parity lines alike too
+module _ {one two : Layer} (agree : AgreeingLayers one two) where
+  same-address : (ns : List ℕ) → parityAddress one ns ≡ parityAddress two ns
+  same-address [] = refl
+  same-address (n ∷ ns) = rw (same-address ns, agree .address)
+
+  same-parity : (g : Group) → SameButMark (readParity one g) (readParity two g)
+  same-parity g = rw (same-address (g .members), readParity) (agree .read (parityAddress two (g .members)) (g .parity))
+
+  same-unusable : (g : Group) → unusable one g ≡ unusable two g
+  unfolding unusable
+  same-unusable g = same-faulty (same-parity g)
+
+  same-groups : (gs : List Group) → map (asRead one) gs ≡ map (asRead two) gs
+  unfolding asRead
+  same-groups [] = refl
+  same-groups (g ∷ gs) = rw (same-unusable g, same-parity g .line, same-groups gs)
+
+  same-after : {s t : State} → Alike s t → (g : Group) → parityAfter one s g ≡ parityAfter two t g
+  unfolding parityAfter
+  same-after a g = rw (same-unusable g, same-parity g .line, alike-count a, same-sum a (g .members))
+
 pub acceptedMarksDecideNothing : AcceptedMarksDecideNothing
 acceptedMarksDecideNothing one two agree gs found =
-    let ends = alike-repair agree gs found in
-    record {
+    rw (same-groups agree gs)
+    (record {
       lines = alike-lines (ends .0);
       marks = alike-at (ends .0);
       passes = ends .1;
-      answers = same-answer (ends .0) gs;
-    }
+      answers = rw (same-groups agree gs) (same-answer (ends .0) (map (asRead two) gs));
+      parities = same-after agree (ends .0);
+    })
+  where
+    reading : Agreeing (readLine one) (readLine two)
+    reading n found = rw (agree .address) (agree .read (two .address n) found)
+
+    ends : Ends (repair (readLine one) (map (asRead two) gs) found) (repair (readLine two) (map (asRead two) gs) found)
+    ends = alike-repair reading (map (asRead two) gs) found

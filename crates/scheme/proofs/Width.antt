@@ -1,4 +1,5 @@
--- Every line keeps its number of places: where reading and the parity lines have it, so do a visit, a pass and repair.
+-- Every line keeps its number of places: where reading and the parity lines of groups with lines have it, so do a visit, a pass and
+-- repair.
 use mathlib.Core.Path.{_≡_, refl, ap, _∙_}
 use mathlib.Core.Logic.{_⊎_, inl, inr}
 use mathlib.Core.Bool.{Bool, true, false, cond}
@@ -13,6 +14,7 @@ use Rattle.scheme.specs.Layer.{Cell, Reading, Layer, Promises}
 use Rattle.scheme.specs.Visit.{Group, State, cellAt, lineAt, isFaulty, faultyOf, without, sum, rebuild, rebuildOnly, settle, mismatch, tryPlaces, tryLines, triable, trial, visit}
 use Rattle.scheme.specs.Repair.{pass, passesFrom}
 use Rattle.scheme.specs.Demand3.{_∈_}
+use Rattle.scheme.proofs.Lists.{selected}
 use Rattle.scheme.proofs.Words.{length-flip}
 use Rattle.scheme.proofs.Sums.{sum-length}
 use Rattle.scheme.proofs.Passes.{by-rounds}
@@ -31,6 +33,10 @@ read-width layer promises a found h = go (promises .sound a found h)
 abbrev pub Wide : ℕ → State → Type 0
 Wide k [] = Unit {0}
 Wide k (c ∷ s) = (length (c .line) ≡ k) × Wide k s
+
+-- a group that has lines has a parity line of k places
+abbrev pub WideGroup : ℕ → Group → Type 0
+WideGroup k g = (n : ℕ) → n ∈ g .members → length (g .parity) ≡ k
 
 module _ (k : ℕ) where
   pub wide-at : (s : State) (n : ℕ) → Wide k s → n < length s → length (lineAt s n) ≡ k
@@ -57,14 +63,14 @@ module _ (k : ℕ) where
       length-xor (g .parity) (sum (lineAt s) (without n (g .members)))
       ∙ omega (arith, p, sum-length k (lineAt s) (without n (g .members)) (λ m i. wide-le s m h)))
 
-  wide-settle : (g : Group) → length (g .parity) ≡ k → (s : State) → Wide k s → Wide k (settle g s)
+  wide-settle : (g : Group) → WideGroup k g → (s : State) → Wide k s → Wide k (settle g s)
   unfolding settle
-  wide-settle g p s h = go (faultyOf s (g .members))
+  wide-settle g p s h = go (faultyOf s (g .members)) (λ n i. p n (selected (λ m. isFaulty (cellAt s m)) (g .members) n i .0))
     where
-      go : (ns : List ℕ) → Wide k (rebuildOnly g s ns)
-      go [] = h
-      go (n ∷ []) = wide-rebuild g p s n h
-      go (n ∷ m ∷ ns) = h
+      go : (ns : List ℕ) → ((n : ℕ) → n ∈ ns → length (g .parity) ≡ k) → Wide k (rebuildOnly g s ns)
+      go [] p = h
+      go (n ∷ []) p = wide-rebuild g (p n (inl refl)) s n h
+      go (n ∷ m ∷ ns) p = h
 
   module _ (read : Reading) (keeps : (n : ℕ) (found : Word) → length found ≡ k → length (read n found .line) ≡ k) where
     wide-search : (n : ℕ) (c : Cell) (ps : List ℕ) → length (c .line) ≡ k → length (tryPlaces read n c ps .line) ≡ k
@@ -93,16 +99,16 @@ module _ (k : ℕ) where
         go true = wide-lines (mismatch g s) s (g .members) h
         go false = h
 
-    pub wide-visit : (g : Group) → length (g .parity) ≡ k → (s : State) → Wide k s → Wide k (visit read g s)
+    wide-visit : (g : Group) → WideGroup k g → (s : State) → Wide k s → Wide k (visit read g s)
     unfolding visit
     wide-visit g p s h = wide-settle g p (trial read g s) (wide-trial g s h)
 
-    pub wide-pass : (gs : List Group) → ((g : Group) → g ∈ gs → length (g .parity) ≡ k) → (s : State) → Wide k s
+    wide-pass : (gs : List Group) → ((g : Group) → g ∈ gs → WideGroup k g) → (s : State) → Wide k s
         → Wide k (pass read gs s)
     wide-pass [] p s h = h
     wide-pass (g ∷ gs) p s h = wide-pass gs (λ f i. p f (inr i)) (visit read g s) (wide-visit g (p g (inl refl)) s h)
 
-    pub wide-passes : (gs : List Group) → ((g : Group) → g ∈ gs → length (g .parity) ≡ k) → (s : State) → Wide k s
+    pub wide-passes : (gs : List Group) → ((g : Group) → g ∈ gs → WideGroup k g) → (s : State) → Wide k s
         → Wide k (passesFrom read gs s .cells)
     wide-passes gs p s =
         by-rounds read gs (λ s r. Wide k s → Wide k (r .cells)) (λ s e h. h) (λ s e i h. wide-pass gs p s h)

@@ -1,0 +1,65 @@
+-- Groups as read, whatever was written: which are used as found, what an accepted parity line is, and the three ways in which a parity
+-- line is left.
+use mathlib.Core.Path.{_≡_, refl, ap, _∙_}
+use mathlib.Core.Logic.{_⊎_, inl, inr}
+use mathlib.Core.Bool.{Bool, true, false}
+use Prim.Native.Nat.{_≤_}
+use native.Mathlib.Omega.{arith}
+use borrow.Author.Tests.{eq-eqb, ne-eqb, eqb-true, eqb-false}
+use lib.ListN.{length}
+use Rattle.gf2.specs.Word.{Word}
+use Rattle.gf2.proofs.Weight.{distance-self}
+use Rattle.scheme.specs.Layer.{Layer, parityAddress, Promises}
+use Rattle.scheme.specs.Visit.{Group, State, lineAt, sum}
+use Rattle.scheme.specs.Repair.{faultyCount}
+use Rattle.scheme.specs.Parity.{readParity, unusable, asRead, parityAfter}
+use Rattle.scheme.proofs.Faithful.{accepted-mark}
+use Rattle.scheme.proofs.Parity.{without-lines}
+use Rattle.scheme.proofs.Width.{read-width, WideGroup}
+
+module _ (layer : Layer) where
+  pub usable : (g : Group) → unusable layer g ≡ false
+      → asRead layer g ≡ record { members = g .members; parity = readParity layer g .line }
+  unfolding asRead
+  usable g e = rw e
+
+  -- ---- how a parity line is left
+  module _ (s : State) (g : Group) where
+    pub left-accepted : unusable layer g ≡ false → parityAfter layer s g ≡ readParity layer g .line
+    unfolding parityAfter
+    left-accepted e = rw e
+
+    pub left-afresh : unusable layer g ≡ true → faultyCount s ≡ 0 → parityAfter layer s g ≡ sum (lineAt s) (g .members)
+    unfolding parityAfter
+    left-afresh e z = rw (e, eq-eqb (faultyCount s) 0 z)
+
+  module _ (promises : Promises layer) (g : Group) (sized : length (g .parity) ≡ layer .width) where
+    pub left-found : (s : State) → unusable layer g ≡ true → (faultyCount s ≡ 0 → ⊥) → parityAfter layer s g ≡ g .parity
+    unfolding parityAfter unusable
+    left-found s e d = rw (e, ne-eqb (faultyCount s) 0 d) (promises .kept _ (g .parity) sized (eqb-true _ 4 e))
+
+    -- an accepted one is a correct line
+    pub accepted-correct : unusable layer g ≡ false → layer .Correct (parityAddress layer (g .members)) (readParity layer g .line)
+    unfolding unusable
+    accepted-correct e = go (promises .sound _ (g .parity) sized)
+      where
+        go : (readParity layer g .mark ≡ 4)
+            ⊎ ((readParity layer g .mark ≤ 1) × layer .Correct (parityAddress layer (g .members)) (readParity layer g .line))
+            → layer .Correct (parityAddress layer (g .members)) (readParity layer g .line)
+        go (inl q) = absurd (eqb-false _ 4 e q)
+        go (inr c) = c .1
+
+    -- as read, a group that has lines has a parity line of all places
+    pub used-wide : WideGroup (layer .width) (asRead layer g)
+    used-wide = go (unusable layer g) refl
+      where
+        go : (b : Bool) → unusable layer g ≡ b → WideGroup (layer .width) (asRead layer g)
+        go true e = rw (without-lines layer g e) (λ n i. absurd i)
+        go false e = rw (usable g e) (λ n i. read-width layer promises _ (g .parity) sized)
+
+  -- a group with a correct parity line is used as found
+  pub used-as-found : Promises layer → (g : Group) → layer .Correct (parityAddress layer (g .members)) (g .parity) → asRead layer g ≡ g
+  unfolding unusable
+  used-as-found promises g c =
+      let r = promises .corrects _ (g .parity) (g .parity) c (promises .sized _ (g .parity) c) (omega (arith, distance-self (g .parity))) in
+      usable g (accepted-mark _ _ r) ∙ ap (λ (w : Word). record { members = g .members; parity = w }) (r .gives)
