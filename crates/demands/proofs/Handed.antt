@@ -7,21 +7,28 @@ use native.Mathlib.Omega.{arith}
 use borrow.Author.Tests.{eqb-false, not-true}
 use lib.ListN.{length, getD, length-map, List·getD-map}
 use Rattle.gf2.specs.Word.{Word}
-use Rattle.linecode.specs.Places.{lineBytes, lineOf}
+use Rattle.linecode.specs.Places.{linePlaces, lineBytes, places, lineOf}
 use Rattle.linecode.specs.Code.{upFrom}
 use Rattle.scheme.specs.Layer.{Cell, readLine, Promises}
-use Rattle.scheme.specs.Visit.{State, cellAt, lineAt, isFaulty, select}
-use Rattle.scheme.specs.Repair.{readAll, faultyCount, linesOf, marksOf}
+use Rattle.scheme.specs.Visit.{Group, State, cellAt, lineAt, isFaulty, select}
+use Rattle.scheme.specs.Repair.{readAll, faultyCount, repair, linesOf, marksOf}
+use Rattle.scheme.specs.Parity.{asRead}
+use Rattle.scheme.specs.Demand3.{_∈_}
+use Rattle.scheme.proofs.Lists.{map-from}
+use Rattle.scheme.proofs.Width.{read-width, Wide, wide-at, wide-passes}
+use Rattle.scheme.proofs.Used.{used-wide}
 use Rattle.scheme.proofs.Passes.{repair-passes-none, repair-passes-bound}
 use Rattle.scheme.proofs.Stays.{first-reading-at, repair-stays, repair-length, faulty-as-found}
-use Rattle.rectangle.specs.Store.{lineLayer, bytesAt, placesAt, linesIn, bufferOf, aloneAt}
+use Rattle.rectangle.specs.Store.{lineLayer, bytesAt, placesAt, linesIn, bufferOf, aloneAt, groups}
 use Rattle.rectangle.specs.Refusals.{sidesFit, holds, acceptedAt, repairRefusal}
-use Rattle.rectangle.specs.Repair.{repairedBy, handsOver, handedOver}
+use Rattle.rectangle.specs.Repair.{usedGroups, repairedBy, handsOver, handedOver}
 use Rattle.demands.specs.Demands.{Rectangle, count, Buffers, repairOf, groupsOf, stepsOn, faultyAlone, PassesOf, PassesReturned, GivenAsRead, AcceptedNeverAltered, FaultyAsFound}
 use Rattle.rectangle.proofs.Alone.{read-from}
 use Rattle.rectangle.proofs.Buffer.{holds-length, length-placesAt, length-linesIn, linesIn-at, bytesAt-bufferOf}
-use Rattle.rectangle.proofs.Tests.{passed}
-use Rattle.demands.proofs.Refused.{refusal, not-refused, handed}
+use Rattle.rectangle.proofs.Groups.{sides, by-groups}
+use Rattle.rectangle.proofs.Loops.{reading-wide}
+use Rattle.rectangle.proofs.Spare.{places-lineOf}
+use Rattle.demands.proofs.Refused.{handed, sizes}
 use Rattle.demands.proofs.TableLines.{in-range}
 
 -- counting those of an image that pass a test
@@ -109,11 +116,8 @@ acceptedNeverAltered r b o n h a = given-as-read r n h b o a
 module _ (promises : Promises lineLayer) (r : Rectangle) (b : Buffers)
     (over : handsOver (repairOf r b .answer) ≡ true) where
   pub line-bytes : length (r .lines) ≡ count r * lineBytes
-  unfolding refusal repairRefusal
-  line-bytes =
-      let two = passed (sidesFit (r .rows) (r .columns)) 2 _ (λ z. omega arith) (not-refused r b over) in
-      let five = passed (holds (count r) (r .lines)) 5 _ (λ z. omega arith) (two .1) in
-      holds-length (count r) (r .lines) (five .0)
+  unfolding lineBytes
+  line-bytes = sizes r b over .lineBytes
 
   module _ (n : ℕ) (h : n < count r) where
     faulty-given : cellAt (end r) n .mark ≡ 4 → lineAt (end r) n ≡ placesAt (r .lines) n
@@ -130,6 +134,34 @@ module _ (promises : Promises lineLayer) (r : Rectangle) (b : Buffers)
         rw (handed r b over)
         (line-handed (end r) n (within-end r n h)
         ∙ ap lineOf (faulty-given (sym (mark-handed (end r) n (within-end r n h) 0) ∙ (rw (handed r b over) at e))))
+
+  -- refusal 6 saw to the parity lines, and so every line handed over has all places
+  pub some-columns : 0 < r .columns
+  some-columns = omega (arith, sides (r .rows) (r .columns) (sizes r b over .sides) .columnsLow)
+
+  pub parity-places : (g : Group) → g ∈ groups (r .rows) (r .columns) (r .rowTable) (r .columnTable)
+      → length (g .parity) ≡ linePlaces
+  unfolding lineBytes
+  parity-places =
+      by-groups (r .rows) (r .columns) some-columns (r .rowTable) (r .columnTable) (λ g. length (g .parity) ≡ linePlaces)
+      (length-placesAt (r .rows) (r .rowTable) (sizes r b over .rowBytes))
+      (length-placesAt (r .columns) (r .columnTable) (sizes r b over .columnBytes))
+
+  end-wide : Wide linePlaces (end r)
+  unfolding end found repairedBy repair usedGroups
+  end-wide =
+      wide-passes linePlaces (readLine lineLayer) (λ n found. read-width lineLayer promises (lineLayer .address n) found) (groupsOf r)
+      (λ h i.
+      let g = map-from (asRead lineLayer) (groups (r .rows) (r .columns) (r .rowTable) (r .columnTable)) h i in
+      rw (g .2) (used-wide lineLayer promises (g .0) (parity-places (g .0) (g .1))))
+      (readAll (readLine lineLayer) 0 (found r)) (reading-wide promises (count r) (r .lines) line-bytes)
+
+  pub places-given : (n : ℕ) → n < count r → placesAt (repairOf r b .lines) n ≡ lineAt (end r) n
+  unfolding end handedOver placesAt
+  places-given n h =
+      rw (handed r b over)
+      (ap places (line-handed (end r) n (within-end r n h))
+      ∙ places-lineOf (lineAt (end r) n) (wide-at linePlaces (end r) n end-wide (within-end r n h)))
 
 pub faultyAsFound : Promises lineLayer → FaultyAsFound
 faultyAsFound promises r b over n h e = given-as-found promises r b over n h e

@@ -4,6 +4,7 @@ pub mod TableLines
 pub mod Handed
 pub mod Marks
 pub mod Reload
+pub mod Cells
 -- The demands: read Kept last.
 pub mod Parity
 pub mod ParityLines

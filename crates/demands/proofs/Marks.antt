@@ -29,7 +29,7 @@ use Rattle.rectangle.proofs.Spare.{places-lineOf}
 use Rattle.demands.specs.Demands.{Rectangle, count, Buffers, repairOf, groupsOf}
 use Rattle.demands.specs.Marks.{MarkTells, MarksTellDamage, LinesReadAsBefore, repairBefore, SameButMarks, RepairedAsBefore}
 use Rattle.demands.proofs.Refused.{refusal, runs, refused, handed}
-use Rattle.demands.proofs.Handed.{found, end, within, within-end, accepted-stays, line-handed, mark-handed, line-bytes}
+use Rattle.demands.proofs.Handed.{found, end, within, within-end, accepted-stays, line-handed, mark-handed, line-bytes, places-given}
 
 -- ---- what the marks tell
 module _ (r : Rectangle) (b : Buffers) (over : handsOver (repairOf r b .answer) ≡ true) (n : ℕ) (h : n < count r) where
@@ -62,16 +62,9 @@ module _ (r : Rectangle) (b : Buffers) (over : handsOver (repairOf r b .answer) 
   unfolding cell end handedOver
   mark-is = rw (handed r b over) (mark-handed (end r) n (within-end r n h) 4)
 
-  line-is : acceptedAt (r .lines) n ≡ true → placesAt (repairOf r b .lines) n ≡ cell .line
-  unfolding cell end handedOver placesAt lineBytes
-  line-is a =
-      rw (handed r b over)
-      (ap places (line-handed (end r) n (within-end r n h)) ∙ places-lineOf (cell .line) long)
-    where
-      long : length (cell .line) ≡ linePlaces
-      long =
-          ap (λ (c : Cell). length (c .line)) (accepted-stays r n h a)
-          ∙ length-alone (r .lines) n (omega (arith, line-bytes kept r b over))
+  line-is : placesAt (repairOf r b .lines) n ≡ cell .line
+  unfolding cell
+  line-is = places-given kept r b over n h
 
   mark-tells : MarkTells r (repairOf r b) n
   unfolding w
@@ -82,8 +75,8 @@ module _ (r : Rectangle) (b : Buffers) (over : handsOver (repairOf r b .answer) 
           λ e.
               let p = tells .rewritten .0 e in
               let a = accepted-test (p .0) in
-              (a, rw (line-is a) (p .1)),
-          λ q. tells .rewritten .1 (accepted-mark (q .0), rw (line-is (q .0)) at (q .1)),
+              (a, rw line-is (p .1)),
+          λ q. tells .rewritten .1 (accepted-mark (q .0), rw line-is at (q .1)),
         );
       }
 

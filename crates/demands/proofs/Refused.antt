@@ -5,7 +5,8 @@ use mathlib.Core.Bool.{Bool, true, false, cond, true≢false}
 use mathlib.Core.List.{List}
 use Prim.Native.Nat.{ℕ}
 use native.Mathlib.Omega.{arith}
-use borrow.Author.Tests.{eq-eqb}
+use borrow.Author.Tests.{eqb-true, eqb-false}
+use lib.Dec.{eqb}
 use Rattle.scheme.specs.Layer.{readLine}
 use Rattle.scheme.specs.Visit.{Group, State}
 use Rattle.scheme.specs.Repair.{pass, agrees, answer, faultyCount}
@@ -16,16 +17,29 @@ use Rattle.rectangle.specs.Tables.{TablesMade}
 use Rattle.rectangle.specs.Change.{LineChanged}
 use Rattle.rectangle.specs.Repair.{repairedBy, handsOver, handedOver}
 use Rattle.demands.specs.Demands.{Rectangle, count, Buffers, tablesFor, changeIn, repairOf, groupsOf, stepsOn, RefusalsWriteNothing, HandsOverAsLeft, GivenUpLast}
+use Rattle.rectangle.proofs.Tests.{passed, failed}
+use Rattle.rectangle.proofs.Refusing.{SizesPass, sizes-then}
 use Rattle.rectangle.proofs.Runs.{zero-or-not, answer-hands-over, refusal-hands-nothing, tables-run, tables-refused, change-runs, change-refused, repair-runs, repair-refused}
 
--- 11 where faulty lines are left
-pub answer-left : (gs : List Group) (s : State) → answer gs s ≡ 11 → faultyCount s ≡ 0 → ⊥
-unfolding answer
-answer-left gs s e z = go (agrees gs s) (rw (eq-eqb (faultyCount s) 0 z) at e)
-  where
-    go : (agree : Bool) → _≡_ {A = ℕ} (cond agree 0 12) 11 → ⊥
-    go true f = omega arith
-    go false f = omega arith
+-- what the steps' answer tells: 11 of lines left faulty, and otherwise 0 or 12 of the parity lines
+module _ (gs : List Group) (s : State) where
+  pub answer-left : answer gs s ≡ 11 → faultyCount s ≡ 0 → ⊥
+  unfolding answer
+  answer-left e =
+      eqb-false _ 0
+      (failed (eqb (faultyCount s) 0) _ (λ z. omega (arith, passed (agrees gs s) 12 0 (λ y. omega arith) z .1)) e)
+
+  pub answer-none : (answer gs s ≡ 11 → ⊥) → faultyCount s ≡ 0
+  unfolding answer
+  answer-none d = eqb-true _ 0 (passed (eqb (faultyCount s) 0) 11 (cond (agrees gs s) 0 12) (λ z. d (sym z)) refl .0)
+
+  pub answer-agree : answer gs s ≡ 0 → agrees gs s ≡ true
+  unfolding answer
+  answer-agree e = passed (agrees gs s) 12 0 (λ z. omega arith) (passed (eqb (faultyCount s) 0) 11 _ (λ z. omega arith) e .1) .0
+
+  pub answer-differ : answer gs s ≡ 12 → agrees gs s ≡ false
+  unfolding answer
+  answer-differ e = failed (agrees gs s) 0 (λ z. omega arith) (passed (eqb (faultyCount s) 0) 11 _ (λ z. omega arith) e .1)
 
 module _ (r : Rectangle) (b : Buffers) where
   unfoldable pub refusal : ℕ
@@ -71,6 +85,11 @@ module _ (r : Rectangle) (b : Buffers) where
   pub handed : handsOver (repairOf r b .answer) ≡ true
       → repairOf r b ≡ handedOver lineLayer (r .rows) (r .columns) (r .rowTable) (r .columnTable) (stepsOn r)
   handed h = runs (not-refused h)
+
+  -- and comes past the tests of the sizes
+  pub sizes : handsOver (repairOf r b .answer) ≡ true → SizesPass (r .rows) (r .columns) (r .lines) (r .rowTable) (r .columnTable)
+  unfolding refusal repairRefusal
+  sizes h = sizes-then (r .rows) (r .columns) (r .lines) (r .rowTable) (r .columnTable) _ (not-refused h) .0
 
   writes-nothing : handsOver (repairOf r b .answer) ≡ false
       → (repairOf r b .lines ≡ b .lines) × (repairOf r b .marks ≡ b .marks)

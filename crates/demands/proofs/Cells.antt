@@ -1,0 +1,116 @@
+-- Request Q-3: the tables that repair hands over, and what 0 and 12 tell of the accepted parity lines; each law for any of the groups.
+use mathlib.Core.Path.{_≡_, refl, sym, ap, ap₂, _∙_}
+use mathlib.Core.Logic.{inl, inr}
+use mathlib.Core.Bool.{Bool, true, false, _&&_, true≢false}
+use mathlib.Core.List.{List, [], _∷_, map}
+use Prim.Native.Nat.{ℕ, zero, suc, _<_}
+use native.Mathlib.Nat.{le-of-suc-le-suc, not-suc-le-zero}
+use native.Mathlib.Omega.{arith}
+use lib.ListN.{length, getD}
+use Rattle.gf2.specs.Word.{_⊕_, isZero}
+use Rattle.linecode.specs.Places.{linePlaces, places, lineOf}
+use Rattle.scheme.specs.Layer.{parityAddress}
+use Rattle.scheme.specs.Visit.{Group, State, lineAt, sum}
+use Rattle.scheme.specs.Repair.{faultyCount, agrees, answer}
+use Rattle.scheme.specs.Parity.{readParity, unusable, noLines, asRead, parityAfter}
+use Rattle.scheme.specs.Demand3.{_∈_}
+use Rattle.scheme.proofs.Sums.{sum-ext}
+use Rattle.scheme.proofs.Parity.{without-lines}
+use Rattle.scheme.proofs.Used.{usable, left-accepted, left-afresh, left-found, accepted-correct, used-as-found}
+use Rattle.rectangle.specs.Store.{lineLayer, bytesAt, placesAt, rowGroups, columnGroups, groups}
+use Rattle.rectangle.specs.Refusals.{every}
+use Rattle.rectangle.specs.Repair.{StoreRepaired, usedGroups, tableAfter, handsOver, handedOver}
+use Rattle.rectangle.proofs.Groups.{groups-inside}
+use Rattle.rectangle.proofs.LineLayer.{kept}
+use Rattle.rectangle.proofs.Members.{in-left, in-right}
+use Rattle.rectangle.proofs.Spare.{places-lineOf}
+use Rattle.rectangle.proofs.Tests.{every-at, some-fails}
+use Rattle.demands.specs.Demands.{Rectangle, count, Buffers, repairOf, groupsOf}
+use Rattle.demands.specs.Cells.{TableGiven, TablesGiven, Differs, AcceptedCompared, CorrectAsFound}
+use Rattle.demands.proofs.Refused.{answer-left, answer-none, answer-agree, answer-differ, handed}
+use Rattle.demands.proofs.TableLines.{table-bytes, table-line}
+use Rattle.demands.proofs.Handed.{end, some-columns, parity-places, places-given}
+
+-- what stands at a number inside a list is in it
+at-in : {A : Type 0} (l : List A) (n : ℕ) (d : A) → n < length l → getD l n d ∈ l
+at-in [] n d h = absurd (not-suc-le-zero h)
+at-in (a ∷ l) zero d h = inl refl
+at-in (a ∷ l) (suc n) d h = inr (at-in l n d (le-of-suc-le-suc h))
+
+-- all groups of a rectangle, as they are found
+abbrev allOf : Rectangle → List Group
+allOf r = groups (r .rows) (r .columns) (r .rowTable) (r .columnTable)
+
+module _ (r : Rectangle) (b : Buffers) (over : handsOver (repairOf r b .answer) ≡ true) where
+  answer-given : repairOf r b .answer ≡ answer (groupsOf r) (end r)
+  unfolding end handedOver
+  answer-given = ap (λ (s : StoreRepaired). s .answer) (handed r b over)
+
+  -- a group's lines as they are handed over
+  sum-given : (g : Group) → g ∈ allOf r → sum (placesAt (repairOf r b .lines)) (g .members) ≡ sum (lineAt (end r)) (g .members)
+  sum-given g i =
+      sum-ext (placesAt (repairOf r b .lines)) (lineAt (end r)) (g .members)
+      (λ n j.
+      places-given kept r b over n
+      (groups-inside (r .rows) (r .columns) (some-columns kept r b over) (r .rowTable) (r .columnTable) g i n j))
+
+  -- ---- the table of any of the groups
+  module _ (gs : List Group) (own : (g : Group) → g ∈ gs → g ∈ allOf r) (table : List ℕ)
+      (is : table ≡ tableAfter lineLayer (end r) gs) where
+    line-is : (k : ℕ) → k < length gs → bytesAt table k ≡ lineOf (parityAfter lineLayer (end r) (getD gs k noLines))
+    line-is k h = rw is (table-line (end r) gs k h)
+
+    table-given : TableGiven gs (repairOf r b .lines) table (repairOf r b .answer)
+    unfolding placesAt
+    table-given =
+        record {
+          bytes = rw is (table-bytes (end r) gs);
+          accepted = accepted;
+          correct = λ k h u.
+              let c = accepted-correct lineLayer kept (at k) (sized k h) u in
+              rw (accepted k h u, places-lineOf (readParity lineLayer (at k) .line) (kept .sized _ _ c)) c;
+          asFound = λ e k h u.
+              line-is k h
+              ∙ ap lineOf
+              (left-found lineLayer kept (at k) (sized k h) (end r) u (answer-left (groupsOf r) (end r) (sym answer-given ∙ e)));
+          afresh = λ d k h u.
+              line-is k h
+              ∙ ap lineOf
+              (left-afresh lineLayer (end r) (at k) u (answer-none (groupsOf r) (end r) (λ e. d (answer-given ∙ e)))
+              ∙ sym (sum-given (at k) (listed k h)));
+        }
+      where
+        at : ℕ → Group
+        at k = getD gs k noLines
+
+        listed : (k : ℕ) → k < length gs → at k ∈ allOf r
+        listed k h = own (at k) (at-in gs k noLines h)
+
+        sized : (k : ℕ) → k < length gs → length (at k .parity) ≡ linePlaces
+        sized k h = parity-places kept r b over (at k) (listed k h)
+
+        accepted : (k : ℕ) → k < length gs → unusable lineLayer (at k) ≡ false
+            → bytesAt table k ≡ lineOf (readParity lineLayer (at k) .line)
+        accepted k h u = line-is k h ∙ ap lineOf (left-accepted lineLayer (end r) (at k) u)
+
+pub tablesGiven : TablesGiven
+unfolding groups end handedOver
+tablesGiven =
+    record {
+      rows = λ r b over.
+          table-given r b over _ (in-left (rowGroups (r .rows) (r .columns) (r .rowTable)) _) (repairOf r b .rowTable)
+          (ap (λ (s : StoreRepaired). s .rowTable) (handed r b over));
+      columns = λ r b over.
+          table-given r b over _ (in-right _ (columnGroups (r .rows) (r .columns) (r .columnTable))) (repairOf r b .columnTable)
+          (ap (λ (s : StoreRepaired). s .columnTable) (handed r b over));
+    }
+
+-- ---- every parity line correct
+pub correctAsFound : CorrectAsFound
+unfolding usedGroups
+correctAsFound r correct = go (allOf r) correct
+  where
+    go : (gs : List Group) → ((g : Group) → g ∈ gs → lineLayer .Correct (parityAddress lineLayer (g .members)) (g .parity))
+        → map (asRead lineLayer) gs ≡ gs
+    go [] c = refl
+    go (g ∷ gs) c = ap₂ _∷_ (used-as-found lineLayer kept g (c g (inl refl))) (go gs (λ h i. c h (inr i)))
