@@ -20,11 +20,11 @@ use Rattle.scheme.proofs.Used.{used-wide}
 use Rattle.scheme.proofs.Passes.{repair-passes-none, repair-passes-bound}
 use Rattle.scheme.proofs.Stays.{first-reading-at, repair-stays, repair-length, faulty-as-found}
 use Rattle.rectangle.specs.Store.{lineLayer, bytesAt, placesAt, linesIn, bufferOf, aloneAt, groups}
-use Rattle.rectangle.specs.Refusals.{sidesFit, holds, acceptedAt, repairRefusal}
+use Rattle.rectangle.specs.Refusals.{acceptedAt}
 use Rattle.rectangle.specs.Repair.{usedGroups, repairedBy, handsOver, handedOver}
 use Rattle.demands.specs.Demands.{Rectangle, count, Buffers, repairOf, groupsOf, stepsOn, faultyAlone, PassesOf, PassesReturned, GivenAsRead, AcceptedNeverAltered, FaultyAsFound}
 use Rattle.rectangle.proofs.Alone.{read-from}
-use Rattle.rectangle.proofs.Buffer.{holds-length, length-placesAt, length-linesIn, linesIn-at, bytesAt-bufferOf}
+use Rattle.rectangle.proofs.Buffer.{length-placesAt, length-linesIn, linesIn-at, bytesAt-bufferOf}
 use Rattle.rectangle.proofs.Groups.{sides, by-groups}
 use Rattle.rectangle.proofs.Loops.{reading-wide}
 use Rattle.rectangle.proofs.Spare.{places-lineOf}
@@ -156,12 +156,15 @@ module _ (promises : Promises lineLayer) (r : Rectangle) (b : Buffers)
       rw (g .2) (used-wide lineLayer promises (g .0) (parity-places (g .0) (g .1))))
       (readAll (readLine lineLayer) 0 (found r)) (reading-wide promises (count r) (r .lines) line-bytes)
 
-  pub places-given : (n : ℕ) → n < count r → placesAt (repairOf r b .lines) n ≡ lineAt (end r) n
-  unfolding end handedOver placesAt
-  places-given n h =
-      rw (handed r b over)
-      (ap places (line-handed (end r) n (within-end r n h))
-      ∙ places-lineOf (lineAt (end r) n) (wide-at linePlaces (end r) n end-wide (within-end r n h)))
+  module _ (n : ℕ) (h : n < count r) where
+    pub line-places : length (lineAt (end r) n) ≡ linePlaces
+    line-places = wide-at linePlaces (end r) n end-wide (within-end r n h)
+
+    pub places-given : placesAt (repairOf r b .lines) n ≡ lineAt (end r) n
+    unfolding end handedOver placesAt
+    places-given =
+        rw (handed r b over)
+        (ap places (line-handed (end r) n (within-end r n h)) ∙ places-lineOf (lineAt (end r) n) line-places)
 
 pub faultyAsFound : Promises lineLayer → FaultyAsFound
 faultyAsFound promises r b over n h e = given-as-found promises r b over n h e

@@ -4,11 +4,10 @@ use mathlib.Core.Logic.{_⊎_, inl, inr}
 use mathlib.Core.Bool.{true, not}
 use mathlib.Core.List.{List, [], _∷_, _++_}
 use Prim.Native.Nat.{ℕ, _<_}
-use native.Mathlib.Omega.{arith}
 use borrow.Author.Tests.{ne-eqb, eqb-false, not-true}
 use lib.ListN.{length, getD, length-map, List·getD-map}
 use Rattle.gf2.specs.Word.{Word}
-use Rattle.linecode.specs.Places.{linePlaces, lineBytes, places, lineOf}
+use Rattle.linecode.specs.Places.{lineOf}
 use Rattle.scheme.specs.Layer.{Cell, readLine}
 use Rattle.scheme.specs.Visit.{Group, State, cellAt}
 use Rattle.scheme.specs.Repair.{Repaired, linesOf, marksOf}
@@ -21,15 +20,13 @@ use Rattle.rectangle.specs.Store.{lineLayer, placesAt, linesIn, bufferOf, alone
 use Rattle.rectangle.specs.Before.{layerBefore}
 use Rattle.rectangle.specs.Refusals.{acceptedAt}
 use Rattle.rectangle.specs.Repair.{usedGroups, repairedBy, tableAfter, handsOver, handedOver}
-use Rattle.rectangle.proofs.Alone.{length-alone}
 use Rattle.rectangle.proofs.Buffer.{length-placesAt, linesIn-at}
 use Rattle.rectangle.proofs.LineLayer.{kept, marks-tell, as-before}
 use Rattle.rectangle.proofs.Runs.{zero-or-not, repair-runs, repair-refused}
-use Rattle.rectangle.proofs.Spare.{places-lineOf}
 use Rattle.demands.specs.Demands.{Rectangle, count, Buffers, repairOf, groupsOf}
 use Rattle.demands.specs.Marks.{MarkTells, MarksTellDamage, LinesReadAsBefore, repairBefore, SameButMarks, RepairedAsBefore}
 use Rattle.demands.proofs.Refused.{refusal, runs, refused, handed}
-use Rattle.demands.proofs.Handed.{found, end, within, within-end, accepted-stays, line-handed, mark-handed, line-bytes, places-given}
+use Rattle.demands.proofs.Handed.{found, end, within, within-end, mark-handed, line-bytes, places-given}
 
 -- ---- what the marks tell
 module _ (r : Rectangle) (b : Buffers) (over : handsOver (repairOf r b .answer) ≡ true) (n : ℕ) (h : n < count r) where
