@@ -15,13 +15,12 @@ use Rattle.scheme.specs.Layer.{readLine, CorrectLine, parityAddress, ReadsAs, P
 use Rattle.scheme.specs.Visit.{sum}
 use Rattle.scheme.specs.Demand3.{_∈_}
 use Rattle.scheme.proofs.Written.{parity-correct}
-use Rattle.rectangle.specs.Store.{lineLayer, placesAt, aloneAt, stride, row, column, rowGroup, columnGroup, rowGroups, columnGroups}
-use Rattle.rectangle.specs.Refusals.{every, parityCorrect, acceptedAt}
+use Rattle.rectangle.specs.Store.{lineLayer, placesAt, aloneAt, stride, row, column, rowGroup, columnGroup}
+use Rattle.rectangle.specs.Refusals.{parityCorrect, acceptedAt}
 use Rattle.rectangle.specs.Tables.{rowParity, columnParity, rowTableOf, columnTableOf}
 use Rattle.rectangle.proofs.LineLayer.{parity-passes}
 use Rattle.rectangle.proofs.Buffer.{length-placesAt, table-at}
 use Rattle.rectangle.proofs.Groups.{row-inside, column-inside}
-use Rattle.rectangle.proofs.Tests.{every-image}
 
 module _ (promises : Promises lineLayer) where
   -- a correct line reads alone as itself
@@ -104,9 +103,3 @@ module _ (promises : Promises lineLayer) where
 
       pub column-passes : (c : ℕ) → c < columns → parityCorrect (columnGroup rows columns columnTable c) ≡ true
       column-passes c h = parity-passes (columnGroup rows columns columnTable c) _ (columnsAgree c h) (columnParity-correct c h)
-
-      pub rows-pass : every parityCorrect (rowGroups rows columns rowTable) ≡ true
-      rows-pass = every-image parityCorrect (rowGroup columns rowTable) rows row-passes
-
-      pub columns-pass : every parityCorrect (columnGroups rows columns columnTable) ≡ true
-      columns-pass = every-image parityCorrect (columnGroup rows columns columnTable) columns column-passes

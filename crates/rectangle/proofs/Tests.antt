@@ -66,21 +66,6 @@ below-every test k e n h = ap test (sym (zero-add n)) ∙ from-every test 0 k e 
 pub fails-below : (test : ℕ → Bool) (k n : ℕ) → n < k → test n ≡ false → every test (upFrom 0 k) ≡ false
 fails-below test k n h e = fails-from test 0 k n h (ap test (zero-add n) ∙ e)
 
--- and of an image, of what is numbered from 0
-every-map : {A B : Type 0} (test : B → Bool) (f : A → B) (l : List A) → every test (map f l) ≡ every (λ a. test (f a)) l
-every-map test f [] = refl
-every-map test f (a ∷ l) = ap (λ (b : Bool). test (f a) && b) (every-map test f l)
-
-module _ {A : Type 0} (test : A → Bool) (f : ℕ → A) (k : ℕ) where
-  pub every-image : ((n : ℕ) → n < k → test (f n) ≡ true) → every test (map f (upFrom 0 k)) ≡ true
-  every-image h = every-map test f (upFrom 0 k) ∙ every-below (λ n. test (f n)) k h
-
-  pub image-every : every test (map f (upFrom 0 k)) ≡ true → (n : ℕ) → n < k → test (f n) ≡ true
-  image-every e = below-every (λ n. test (f n)) k (sym (every-map test f (upFrom 0 k)) ∙ e)
-
-  pub image-fails : (n : ℕ) → n < k → test (f n) ≡ false → every test (map f (upFrom 0 k)) ≡ false
-  image-fails n h e = every-map test f (upFrom 0 k) ∙ fails-below (λ n. test (f n)) k n h e
-
 -- ---- a refusal
 -- an answer other than a test's refusal passed the test
 pub passed : {n : ℕ} (b : Bool) (refusal next : ℕ) → (refusal ≡ n → ⊥) → unless b refusal next ≡ n → (b ≡ true) × (next ≡ n)
