@@ -1,27 +1,30 @@
--- Demand 3 for rectangles in bytes: the exact return, that none look alike, and the four lines.
+-- Demand 3 for rectangles in bytes: the exact return, and that none look alike.
 use mathlib.Core.Path.{_≡_, refl, sym, ap, ap₂, subst, _∙_}
-use mathlib.Core.Bool.{true}
-use mathlib.Core.List.{List}
-use Prim.Native.Nat.{ℕ, _<_}
+use mathlib.Core.List.{List, map}
+use Prim.Native.Nat.{ℕ}
 use borrow.Author.Tests.{eq-eqb}
 use lib.ListN.{length}
 use Rattle.gf2.specs.Word.{Word}
 use Rattle.scheme.specs.Layer.{readLine, Promises}
-use Rattle.scheme.specs.Visit.{Group}
-use Rattle.scheme.specs.Repair.{repair, linesOf, answer}
-use Rattle.scheme.specs.Demand3.{RisingGroups, Returned}
+use Rattle.scheme.specs.Visit.{Group, State, lineAt}
+use Rattle.scheme.specs.Repair.{faultyCount, repair, linesOf}
+use Rattle.scheme.specs.Parity.{asRead}
+use Rattle.scheme.specs.Demand3.{RisingGroups, wordAt}
 use Rattle.scheme.specs.Demand3 as Scheme
-use Rattle.scheme.proofs.ExactReturn.{exact-return}
-use Rattle.rectangle.specs.Store.{lineLayer, placesAt, linesIn, bufferOf, groups}
-use Rattle.rectangle.specs.Refusals.{holds, repairRefusal}
-use Rattle.rectangle.specs.Repair.{repaired, handedOver, repairStore}
-use Rattle.demands.specs.Demands.{Rectangle, count, repairOf, Written, Alike, WithinBounds, DamagedSo, ExactReturn, NotAlike}
+use Rattle.scheme.proofs.Grows.{none-counted}
+use Rattle.scheme.proofs.Parity.{Found, rising-read, written-read}
+use Rattle.scheme.proofs.NoneWrong.{end-line}
+use Rattle.scheme.proofs.ExactReturn.{none-faulty, exact-return}
+use Rattle.rectangle.specs.Store.{lineLayer, linesIn, bufferOf, groups}
+use Rattle.rectangle.specs.Refusals.{repairRefusal}
+use Rattle.rectangle.specs.Repair.{usedGroups, repairedBy, handedOver}
+use Rattle.demands.specs.Demands.{Rectangle, count, Buffers, repairOf, Room, groupsOf, stepsOn, Written, Alike, WithinBounds, DamagedSo, Returned, ExactReturn, NotAlike}
 use Rattle.rectangle.proofs.Buffer.{linesIn-equal}
-use Rattle.rectangle.proofs.Groups.{rising-groups, equal-groups}
-use Rattle.rectangle.proofs.Runs.{repair-runs}
-use Rattle.demands.proofs.Parity.{rows-pass, columns-pass}
-use Rattle.demands.proofs.Written.{wordsOf, rectangleOf, some-rows, some-columns, written-bytes, written-accepted, written-row, written-column, store-written}
-use Rattle.demands.proofs.Order.{received, mendable}
+use Rattle.rectangle.proofs.Groups.{by-groups, rising-groups, equal-groups}
+use Rattle.demands.proofs.Refused.{refusal, runs}
+use Rattle.demands.proofs.Written.{wordsOf, rectangleOf, some-columns, words-correct}
+use Rattle.demands.proofs.Damaged.{found-group, table-back}
+use Rattle.demands.proofs.Order.{received, rows-damaged, columns-damaged, bounded, mendable}
 
 -- a rectangle of the same rows and columns
 pub same-sides : (w r : Rectangle) → r .rows ≡ w .rows → r .columns ≡ w .columns
@@ -47,74 +50,95 @@ same-lines one w lines rowTable columnTable v e =
     ∙ sym (written-is (received one lines rowTable columnTable) v)
 
 module _ (promises : Promises lineLayer) where
-  -- within the bounds: the groups are those of a store written, and repair is not refused
+  -- within the bounds: the groups as read are those of a store written, and repair is not refused
   module _ (w : Rectangle) (written : Written w) (lines rowTable columnTable : List ℕ)
       (bounds : WithinBounds w (received w lines rowTable columnTable)) where
-    rows-agree : (r : ℕ) → r < w .rows → placesAt rowTable r ≡ placesAt (w .rowTable) r
-    rows-agree = linesIn-equal (w .rows) rowTable (w .rowTable) (bounds .tables .rowTable)
+    abbrev r : Rectangle
+    r = received w lines rowTable columnTable
 
-    columns-agree : (c : ℕ) → c < w .columns → placesAt columnTable c ≡ placesAt (w .columnTable) c
-    columns-agree = linesIn-equal (w .columns) columnTable (w .columnTable) (bounds .tables .columnTable)
+    pub groups-rise : RisingGroups (groupsOf (received w lines rowTable columnTable))
+    unfolding usedGroups
+    groups-rise =
+        rising-read lineLayer (groups (w .rows) (w .columns) rowTable columnTable)
+        (rising-groups (w .rows) (w .columns) (some-columns promises w written) rowTable columnTable)
 
-    pub groups-rise : RisingGroups (groups (w .rows) (w .columns) rowTable columnTable)
-    groups-rise = rising-groups (w .rows) (w .columns) (some-columns promises w written) rowTable columnTable
+    pub groups-written : Scheme.Written lineLayer (groupsOf (received w lines rowTable columnTable)) (wordsOf w)
+    unfolding usedGroups
+    groups-written =
+        written-read lineLayer promises (wordsOf w) (groups (w .rows) (w .columns) rowTable columnTable)
+        (by-groups (w .rows) (w .columns) (some-columns promises w written) rowTable columnTable (Found lineLayer (wordsOf w))
+        (found-group promises (rows-damaged promises w written lines rowTable columnTable bounds))
+        (found-group promises (columns-damaged promises w written lines rowTable columnTable bounds)))
+        (words-correct promises w written)
 
-    pub groups-written : Scheme.Written lineLayer (groups (w .rows) (w .columns) rowTable columnTable) (wordsOf w)
-    groups-written = store-written promises w written rowTable columnTable rows-agree columns-agree
+    -- where no line is left faulty, all are the written ones
+    pub right-lines : faultyCount (stepsOn (received w lines rowTable columnTable) .cells) ≡ 0 → (n : ℕ)
+        → lineAt (stepsOn (received w lines rowTable columnTable) .cells) n ≡ wordAt (wordsOf w) n
+    unfolding repairedBy
+    right-lines e n =
+        end-line lineLayer promises (groupsOf r) groups-rise (wordsOf w) (linesIn (count w) lines) groups-written
+        (bounded promises w written lines rowTable columnTable bounds) n (none-counted (stepsOn r .cells) e n)
 
-    module _ (out marks : List ℕ) (outBytes : holds (count w) out ≡ true) (markBytes : length marks ≡ count w) where
-      not-refused : repairRefusal (w .rows) (w .columns) lines rowTable columnTable out marks ≡ 0
-      unfolding repairRefusal
-      not-refused =
-          rw (
-            written .sides,
-            bounds .lineBytes,
-            bounds .tableBytes,
-            outBytes,
-            eq-eqb (length marks) (count w) markBytes,
-            rows-pass promises (w .rows) (w .columns) (some-rows promises w written) (some-columns promises w written) (w .lines)
-                (written-bytes promises w written) (written-accepted promises w written) rowTable columnTable
-                (λ r h. rows-agree r h ∙ written-row promises w written r h)
-                (λ c h. columns-agree c h ∙ written-column promises w written c h),
-            columns-pass promises (w .rows) (w .columns) (some-rows promises w written) (some-columns promises w written) (w .lines)
-                (written-bytes promises w written) (written-accepted promises w written) rowTable columnTable
-                (λ r h. rows-agree r h ∙ written-row promises w written r h)
-                (λ c h. columns-agree c h ∙ written-column promises w written c h),
-          )
-
-      pub runs : repairStore (w .rows) (w .columns) lines rowTable columnTable out marks
-          ≡ handedOver (groups (w .rows) (w .columns) rowTable columnTable)
-          (repaired (w .rows) (w .columns) lines rowTable columnTable)
-      runs = repair-runs (w .rows) (w .columns) lines rowTable columnTable out marks 0 not-refused refl
+    pub runs-through : (b : Buffers) → Room (received w lines rowTable columnTable) b
+        → repairOf (received w lines rowTable columnTable) b
+        ≡ handedOver lineLayer (w .rows) (w .columns) rowTable columnTable (stepsOn (received w lines rowTable columnTable))
+    unfolding refusal repairRefusal
+    runs-through b room =
+        runs r b
+        (rw (
+          written .sides,
+          bounds .shape .lineBytes,
+          bounds .shape .tableBytes,
+          room .tableBytes,
+          room .lineBytes,
+          eq-eqb (length (b .marks)) (count w) (room .marks),
+        ))
 
   -- ---- the exact return
   module _ (w : Rectangle) (written : Written w) (lines rowTable columnTable : List ℕ)
       (damaged : DamagedSo w (received w lines rowTable columnTable)) where
-    -- the scheme's, over places
-    steps-return : Returned (groups (w .rows) (w .columns) rowTable columnTable) (wordsOf w)
-        (repair (readLine lineLayer) (groups (w .rows) (w .columns) rowTable columnTable) (linesIn (count w) lines))
-    steps-return =
-        exact-return lineLayer promises (groups (w .rows) (w .columns) rowTable columnTable)
-        (groups-rise w written lines rowTable columnTable (damaged .bounds)) (wordsOf w) (linesIn (count w) lines)
-        (groups-written w written lines rowTable columnTable (damaged .bounds)) (damaged .order)
-        (mendable w (some-columns promises w written) lines rowTable columnTable damaged)
+    abbrev gs : List Group
+    gs = groupsOf (received w lines rowTable columnTable)
 
-    returns : (out marks : List ℕ) → holds (count w) out ≡ true → length marks ≡ count w
-        → (repairStore (w .rows) (w .columns) lines rowTable columnTable out marks .answer ≡ 0)
-        × (repairStore (w .rows) (w .columns) lines rowTable columnTable out marks .lines ≡ w .lines)
-    unfolding handedOver repaired
-    returns out marks outBytes markBytes =
-        rw (runs w written lines rowTable columnTable (damaged .bounds) out marks outBytes markBytes)
-        (steps-return .answers, ap bufferOf (steps-return .exactly) ∙ sym (written .lines))
+    abbrev end : State
+    end = stepsOn (received w lines rowTable columnTable) .cells
+
+    -- the scheme's, over places
+    steps-return : Scheme.Returned (groupsOf (received w lines rowTable columnTable)) (wordsOf w)
+        (repair (readLine lineLayer) (groupsOf (received w lines rowTable columnTable)) (linesIn (count w) lines))
+    steps-return =
+        exact-return lineLayer promises gs (groups-rise w written lines rowTable columnTable (damaged .bounds)) (wordsOf w)
+        (linesIn (count w) lines) (groups-written w written lines rowTable columnTable (damaged .bounds)) _
+        (mendable promises w written lines rowTable columnTable (damaged .bounds) (damaged .ordered))
+
+    none-left : faultyCount end ≡ 0
+    unfolding repairedBy
+    none-left =
+        none-faulty lineLayer promises gs (groups-rise w written lines rowTable columnTable (damaged .bounds)) (wordsOf w)
+        (linesIn (count w) lines) (groups-written w written lines rowTable columnTable (damaged .bounds)) _
+        (mendable promises w written lines rowTable columnTable (damaged .bounds) (damaged .ordered))
+
+    returned : (b : Buffers) → Room (received w lines rowTable columnTable) b
+        → Returned w (repairOf (received w lines rowTable columnTable) b)
+    unfolding handedOver repairedBy
+    returned b room =
+        rw (runs-through w written lines rowTable columnTable (damaged .bounds) b room)
+        (record {
+          answer = steps-return .answers;
+          lines = ap bufferOf (steps-return .exactly) ∙ sym (written .lines);
+          rowTable = table-back promises (rows-damaged promises w written lines rowTable columnTable (damaged .bounds)) end right none-left;
+          columnTable =
+              table-back promises (columns-damaged promises w written lines rowTable columnTable (damaged .bounds)) end right none-left;
+        })
+      where
+        right : faultyCount end ≡ 0 → (n : ℕ) → lineAt end n ≡ wordAt (wordsOf w) n
+        right = right-lines w written lines rowTable columnTable (damaged .bounds)
 
   pub exactReturn : ExactReturn
-  unfolding repairOf
-  exactReturn w r written damaged out marks outBytes markBytes =
-      subst
-      (λ (s : Rectangle). DamagedSo w s → holds (count s) out ≡ true → length marks ≡ count s
-      → (repairOf s out marks .answer ≡ 0) × (repairOf s out marks .lines ≡ w .lines))
-      (sym (same-sides w r (damaged .bounds .rows) (damaged .bounds .columns)))
-      (λ d. returns w written (r .lines) (r .rowTable) (r .columnTable) d out marks) damaged outBytes markBytes
+  exactReturn w r written damaged b room =
+      subst (λ (s : Rectangle). DamagedSo w s → Room s b → Returned w (repairOf s b))
+      (sym (same-sides w r (damaged .bounds .shape .rows) (damaged .bounds .shape .columns)))
+      (λ d o. returned w written (r .lines) (r .rowTable) (r .columnTable) d b o) damaged room
 
   -- ---- none look alike
   module _ (one : Rectangle) (w : Written one) (lines rowTable columnTable : List ℕ)
@@ -124,12 +148,14 @@ module _ (promises : Promises lineLayer) where
       (alike : Alike (received one lines₁ rowTable₁ columnTable₁) (received one lines₂ rowTable₂ columnTable₂)) where
     -- both come back from the same steps
     same-words : wordsOf one ≡ wordsOf (received one lines rowTable columnTable)
+    unfolding usedGroups
     same-words =
         sym (steps-return one w lines₁ rowTable₁ columnTable₁ d .exactly)
         ∙ ap₂ (λ (gs : List Group) (found : List Word). linesOf (repair (readLine lineLayer) gs found .cells))
+        (ap (map (asRead lineLayer))
         (equal-groups (one .rows) (one .columns) rowTable₁ columnTable₁ rowTable₂ columnTable₂
         (linesIn-equal (one .rows) rowTable₁ rowTable₂ (alike .tables .rowTable))
-        (linesIn-equal (one .columns) columnTable₁ columnTable₂ (alike .tables .columnTable)))
+        (linesIn-equal (one .columns) columnTable₁ columnTable₂ (alike .tables .columnTable))))
         (alike .lines)
         ∙ steps-return (received one lines rowTable columnTable) v lines₂ rowTable₂ columnTable₂ d′ .exactly
 
@@ -146,12 +172,12 @@ module _ (promises : Promises lineLayer) where
       ∙ sym p
     where
       t : s ≡ received one (s .lines) (s .rowTable) (s .columnTable)
-      t = same-sides one s (sym (alike .rows) ∙ d .bounds .rows) (sym (alike .columns) ∙ d .bounds .columns)
+      t = same-sides one s (sym (alike .rows) ∙ d .bounds .shape .rows) (sym (alike .columns) ∙ d .bounds .shape .columns)
 
       p : two ≡ received one (two .lines) (two .rowTable) (two .columnTable)
       p =
-          same-sides one two (sym (d′ .bounds .rows) ∙ sym (alike .rows) ∙ d .bounds .rows)
-          (sym (d′ .bounds .columns) ∙ sym (alike .columns) ∙ d .bounds .columns)
+          same-sides one two (sym (d′ .bounds .shape .rows) ∙ sym (alike .rows) ∙ d .bounds .shape .rows)
+          (sym (d′ .bounds .shape .columns) ∙ sym (alike .columns) ∙ d .bounds .shape .columns)
 
       q : r ≡ received one (r .lines) (r .rowTable) (r .columnTable)
-      q = same-sides one r (d .bounds .rows) (d .bounds .columns)
+      q = same-sides one r (d .bounds .shape .rows) (d .bounds .shape .columns)

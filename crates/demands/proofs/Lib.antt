@@ -9,6 +9,7 @@ pub mod Cells
 pub mod Parity
 pub mod ParityLines
 pub mod Written
+pub mod Damaged
 pub mod Order
 pub mod Demand3
 pub mod NoneWrong
