@@ -1,5 +1,6 @@
--- The words of demand 3 can be met: in any 2 by 2 rectangle written let lines 0 and 2 be damaged at places 0 and 1, and lines 1 and 3
--- at places 2 and 3; then line 0 can only be mended by trial, and after it all others.
+-- The words of demand 3 can be met: in a 2 by 2 rectangle written let lines 0 and 2 be damaged at places 0 and 1, lines 1 and 3 at
+-- places 2 and 3, the parity line of row 0 at place 0, and that of column 1 at places 0 and 1, so that this column is unusable; then
+-- line 0 can only be mended by trial, and after it all others.
 use mathlib.Core.Path.{_≡_, refl, sym, ap, ap₂, _∙_}
 use mathlib.Core.Logic.{inl, inr}
 use mathlib.Core.Bool.{Bool, true, false}
@@ -12,22 +13,23 @@ use lib.ListN.{length, getD, replicate}
 use Rattle.gf2.specs.Word.{Word, _⊕_, weight, distance, flip}
 use Rattle.gf2.proofs.Xor.{bit-self}
 use Rattle.gf2.proofs.Weight.{distance-self, length-flip}
-use Rattle.linecode.specs.Places.{lineBytes, dataBytes}
+use Rattle.linecode.specs.Places.{linePlaces, dataBytes}
 use Rattle.linecode.specs.Code.{upFrom}
 use Rattle.scheme.specs.Layer.{CorrectLine, Promises}
+use Rattle.scheme.specs.Visit.{isFaulty, sum}
+use Rattle.scheme.specs.Parity.{unusable}
 use Rattle.scheme.specs.Demand3.{_∈_, wordAt}
-use Rattle.rectangle.specs.Store.{lineLayer, placesAt, linesIn, bufferOf}
-use Rattle.rectangle.specs.Refusals.{sideFits, sidesFit, holds}
+use Rattle.rectangle.specs.Store.{lineLayer, placesAt, linesIn, bufferOf, column, columnGroup}
+use Rattle.rectangle.specs.Refusals.{sideFits, sidesFit}
 use Rattle.rectangle.specs.Change.{newLine}
-use Rattle.demands.specs.Demands.{Rectangle, count, repairOf, Written, Distinct, damage, damagedAt, Alone, Paired, WithinBounds, DamagedSo, HypothesisMet}
+use Rattle.demands.specs.Demands.{Rectangle, count, Buffers, repairOf, Room, Written, Distinct, damage, damagedAt, rowDamage, columnDamage, Alone, Paired, WithinBounds, DamagedSo, Returned, HypothesisMet}
 use Rattle.rectangle.proofs.Members.{in-upFrom, upFrom-bounds}
 use Rattle.rectangle.proofs.Spare.{places-is}
-use Rattle.rectangle.proofs.Buffer.{Sized, placesAt-bufferOf, length-bufferOf, length-holds, linesIn-equal}
+use Rattle.rectangle.proofs.Buffer.{Sized, placesAt-bufferOf, linesIn-bufferOf, length-bufferOf, length-holds, linesIn-equal}
 use Rattle.rectangle.proofs.Tests.{lengths-tables}
-use Rattle.demands.proofs.Written.{rectangleOf, correct-written}
-use Rattle.demands.proofs.Agreement.{rowTable-bytes, columnTable-bytes}
+use Rattle.rectangle.proofs.LineLayer.{write-correct, blank-hurt}
+use Rattle.demands.proofs.Written.{rectangleOf, rows-written, columns-written, correct-written}
 use Rattle.demands.proofs.Order.{received}
-use Rattle.rectangle.proofs.LineLayer.{write-correct}
 use Rattle.demands.proofs.Kept.{kept, exactReturn}
 
 -- ---- two places turned over are two damaged bits
@@ -38,6 +40,11 @@ first-two (false ∷ false ∷ x) h = ap (λ (n : ℕ). suc (suc n)) (distance-s
 first-two (false ∷ true ∷ x) h = ap (λ (n : ℕ). suc (suc n)) (distance-self x)
 first-two (true ∷ false ∷ x) h = ap (λ (n : ℕ). suc (suc n)) (distance-self x)
 first-two (true ∷ true ∷ x) h = ap (λ (n : ℕ). suc (suc n)) (distance-self x)
+
+first-one : (x : Word) → 1 ≤ length x → distance x (flip 0 x) ≡ 1
+first-one [] h = let z : ⊥ = omega arith in absurd z
+first-one (false ∷ x) h = ap suc (distance-self x)
+first-one (true ∷ x) h = ap suc (distance-self x)
 
 next-two : (x : Word) → 4 ≤ length x → distance x (flip 3 (flip 2 x)) ≡ 2
 next-two [] h = let z : ⊥ = omega arith in absurd z
@@ -54,14 +61,26 @@ unhurt-first : (x : Word) → getD (x ⊕ flip 3 (flip 2 x)) 0 false ≡ false
 unhurt-first [] = refl
 unhurt-first (a ∷ x) = bit-self a
 
+-- a table of two parity lines
+two-lines : (x y : Word) → length x ≡ linePlaces → length y ≡ linePlaces
+    → (placesAt (bufferOf (x ∷ y ∷ [])) 0 ≡ x) × (placesAt (bufferOf (x ∷ y ∷ [])) 1 ≡ y)
+two-lines x y e f =
+    (placesAt-bufferOf (x ∷ y ∷ []) sized 0 (lit< tt), placesAt-bufferOf (x ∷ y ∷ []) sized 1 (lit< tt))
+  where
+    sized : Sized (x ∷ y ∷ [])
+    sized zero h = e
+    sized (suc zero) h = f
+    sized (suc (suc n)) h = let z : ⊥ = omega arith in absurd z
+
 -- numbers counted upward
 upFrom-distinct : (n k : ℕ) → Distinct (upFrom n k)
 upFrom-distinct n zero = tt
 upFrom-distinct n (suc k) = ((λ i. omega (arith, upFrom-bounds (suc n) k n i .0)), upFrom-distinct (suc n) k)
 
--- ---- any 2 by 2 rectangle written, as it is received
+-- ---- any 2 by 2 rectangle written whose column 1 is unusable when it is hurt so, as it is received
 module _ (promises : Promises lineLayer) (a b c d : Word)
-    (correct : (n : ℕ) → n < 4 → CorrectLine lineLayer n (wordAt (a ∷ b ∷ c ∷ d ∷ []) n)) where
+    (correct : (n : ℕ) → n < 4 → CorrectLine lineLayer n (wordAt (a ∷ b ∷ c ∷ d ∷ []) n))
+    (unread : (address : ℕ) → isFaulty (lineLayer .read address (flip 1 (flip 0 (b ⊕ (d ⊕ []))))) ≡ true) where
   ws : List Word
   ws = a ∷ b ∷ c ∷ d ∷ []
 
@@ -71,13 +90,26 @@ module _ (promises : Promises lineLayer) (a b c d : Word)
   stored : Rectangle
   stored = rectangleOf 2 2 (bufferOf ws)
 
-  found : Rectangle
-  unfolding rectangleOf
-  found = received stored (bufferOf rs) (stored .rowTable) (stored .columnTable)
-
   whole : Written stored
   unfolding stored ws sidesFit sideFits
   whole = correct-written promises 2 2 ws refl refl correct
+
+  -- the parity lines written
+  abbrev rowAt : ℕ → Word
+  rowAt k = placesAt (stored .rowTable) k
+
+  abbrev columnAt : ℕ → Word
+  columnAt k = placesAt (stored .columnTable) k
+
+  -- and as they are received
+  abbrev foundRows : List Word
+  foundRows = flip 0 (rowAt 0) ∷ rowAt 1 ∷ []
+
+  abbrev foundColumns : List Word
+  foundColumns = columnAt 0 ∷ flip 1 (flip 0 (columnAt 1)) ∷ []
+
+  found : Rectangle
+  found = received stored (bufferOf rs) (bufferOf foundRows) (bufferOf foundColumns)
 
   sized : Sized ws
   unfolding ws
@@ -112,6 +144,49 @@ module _ (promises : Promises lineLayer) (a b c d : Word)
   two-bits (suc (suc zero)) h = damage-is 2 h ∙ first-two c (omega (arith, long 2 h))
   two-bits (suc (suc (suc zero))) h = damage-is 3 h ∙ next-two d (long 3 h)
   two-bits (suc (suc (suc (suc n)))) h = let z : ⊥ = omega arith in absurd z
+
+  -- the damage of each parity line
+  long-row : (k : ℕ) → k < 2 → length (rowAt k) ≡ linePlaces
+  unfolding stored rectangleOf
+  long-row k h = promises .sized _ _ (rows-written promises stored whole .correct k h)
+
+  long-column : (k : ℕ) → k < 2 → length (columnAt k) ≡ linePlaces
+  unfolding stored rectangleOf
+  long-column k h = promises .sized _ _ (columns-written promises stored whole .correct k h)
+
+  rows-are : (placesAt (found .rowTable) 0 ≡ flip 0 (rowAt 0)) × (placesAt (found .rowTable) 1 ≡ rowAt 1)
+  unfolding found
+  rows-are =
+      two-lines (flip 0 (rowAt 0)) (rowAt 1) (length-flip 0 (rowAt 0) ∙ long-row 0 (lit< tt)) (long-row 1 (lit< tt))
+
+  columns-are : (placesAt (found .columnTable) 0 ≡ columnAt 0) × (placesAt (found .columnTable) 1 ≡ flip 1 (flip 0 (columnAt 1)))
+  unfolding found
+  columns-are =
+      two-lines (columnAt 0) (flip 1 (flip 0 (columnAt 1))) (long-column 0 (lit< tt))
+      (length-flip 1 (flip 0 (columnAt 1)) ∙ length-flip 0 (columnAt 1) ∙ long-column 1 (lit< tt))
+
+  row-damage : (rowDamage stored found 0 ≡ 1) × (rowDamage stored found 1 ≡ 0)
+  row-damage = (
+    ap (distance (rowAt 0)) (rows-are .0) ∙ first-one (rowAt 0) (omega (arith, long-row 0 (lit< tt), places-is)),
+    ap (distance (rowAt 1)) (rows-are .1) ∙ distance-self (rowAt 1),
+  )
+
+  column-damage : (columnDamage stored found 0 ≡ 0) × (columnDamage stored found 1 ≡ 2)
+  column-damage = (
+    ap (distance (columnAt 0)) (columns-are .0) ∙ distance-self (columnAt 0),
+    ap (distance (columnAt 1)) (columns-are .1) ∙ first-two (columnAt 1) (omega (arith, long-column 1 (lit< tt), places-is)),
+  )
+
+  -- column 1 as written is the sum of lines 1 and 3, and as received it is unusable
+  column-is : columnAt 1 ≡ b ⊕ (d ⊕ [])
+  unfolding stored rectangleOf ws column
+  column-is =
+      columns-written promises stored whole .sums 1 (lit< tt)
+      ∙ ap (λ (l : List Word). sum (wordAt l) (1 ∷ 3 ∷ [])) (linesIn-bufferOf ws sized)
+
+  faulty : unusable lineLayer (columnGroup (found .rows) (found .columns) (found .columnTable) 1) ≡ true
+  unfolding unusable
+  faulty = rw (columns-are .1, column-is) (unread _)
 
   -- line 0 first, by trial beside line 1 in row 0
   first : Paired stored found (λ m. m / 2) 0 (1 ∷ 2 ∷ 3 ∷ [])
@@ -149,26 +224,52 @@ module _ (promises : Promises lineLayer) (a b c d : Word)
   unfolding stored found rs rectangleOf
   bounds =
       record {
-        rows = refl;
-        columns = refl;
-        lineBytes = length-holds 4 (bufferOf rs) (length-bufferOf rs);
-        tableBytes = lengths-tables 2 2 _ _ (rowTable-bytes 2 2 (bufferOf ws)) (columnTable-bytes 2 2 (bufferOf ws));
-        tables = record { rowTable = refl; columnTable = refl };
+        shape = record {
+          rows = refl;
+          columns = refl;
+          lineBytes = length-holds 4 (bufferOf rs) (length-bufferOf rs);
+          tableBytes = lengths-tables 2 2 _ _ (length-bufferOf foundRows) (length-bufferOf foundColumns);
+        };
         five = λ n h. omega (arith, two-bits n h);
+        rowFive = rowFive;
+        columnFive = columnFive;
       }
+    where
+      rowFive : (k : ℕ) → k < 2 → rowDamage stored found k ≤ 5
+      rowFive zero h = omega (arith, row-damage .0)
+      rowFive (suc zero) h = omega (arith, row-damage .1)
+      rowFive (suc (suc k)) h = let z : ⊥ = omega arith in absurd z
+
+      columnFive : (k : ℕ) → k < 2 → columnDamage stored found k ≤ 5
+      columnFive zero h = omega (arith, column-damage .0)
+      columnFive (suc zero) h = omega (arith, column-damage .1)
+      columnFive (suc (suc k)) h = let z : ⊥ = omega arith in absurd z
 
   damaged : DamagedSo stored found
   unfolding stored found rectangleOf
   damaged =
       record {
         bounds = bounds;
-        order = 0 ∷ 1 ∷ 2 ∷ 3 ∷ [];
-        once = upFrom-distinct 0 4;
-        each = λ n h k. listed n h;
-        noOther = λ n i. (inside n i, omega (arith, two-bits n (inside n i)));
-        turns = (inl (inr first), (inl (inl last-in-row), (inr (inl last-in-column), (inl (inl (λ m i e. i)), tt))));
+        ordered = record {
+          order = 0 ∷ 1 ∷ 2 ∷ 3 ∷ [];
+          once = upFrom-distinct 0 4;
+          each = λ n h k. listed n h;
+          noOther = λ n i. (inside n i, omega (arith, two-bits n (inside n i)));
+          turns =
+              (inl (row₀, inr first), (inl (row₀, inl last-in-row), (inr (column₀, inl last-in-column), (inl (row₁, inl (λ m i e. i)), tt))));
+        };
       }
     where
+      -- the groups that count: not column 1
+      row₀ : rowDamage stored found 0 ≤ 1
+      row₀ = omega (arith, row-damage .0)
+
+      row₁ : rowDamage stored found 1 ≤ 1
+      row₁ = omega (arith, row-damage .1)
+
+      column₀ : columnDamage stored found 0 ≤ 1
+      column₀ = omega (arith, column-damage .0)
+
       listed : (n : ℕ) → n < 4 → n ∈ (0 ∷ 1 ∷ 2 ∷ 3 ∷ [])
       listed n h = rw zero-add at (in-upFrom 0 4 n h)
 
@@ -197,30 +298,29 @@ module _ (promises : Promises lineLayer) (a b c d : Word)
         trial = first;
         notInRow = λ alone. alone 1 (inl refl) refl;
         notInColumn = λ alone. alone 2 (inr (inl refl)) refl;
+        hurt = row-damage .0;
+        lost = 1;
+        inside = lit< tt;
+        faulty = faulty;
       }
 
 -- ---- such a rectangle of four lines of zero data, written with the line code's own promises
-zeroData : List ℕ
-zeroData = replicate 64 0
+abbrev zeroLine : ℕ → Word
+zeroLine n = newLine n (replicate 64 0)
 
-zeroLines : List Word
-zeroLines = newLine 0 zeroData ∷ newLine 1 zeroData ∷ newLine 2 zeroData ∷ newLine 3 zeroData ∷ []
-
-zero-lines : (n : ℕ) → n < 4 → CorrectLine lineLayer n (wordAt zeroLines n)
-unfolding dataBytes zeroData zeroLines
-zero-lines zero h = write-correct 0 zeroData refl
-zero-lines (suc zero) h = write-correct 1 zeroData refl
-zero-lines (suc (suc zero)) h = write-correct 2 zeroData refl
-zero-lines (suc (suc (suc zero))) h = write-correct 3 zeroData refl
+zero-lines : (n : ℕ) → n < 4 → CorrectLine lineLayer n (wordAt (zeroLine 0 ∷ zeroLine 1 ∷ zeroLine 2 ∷ zeroLine 3 ∷ []) n)
+unfolding dataBytes
+zero-lines zero h = write-correct 0 _ refl
+zero-lines (suc zero) h = write-correct 1 _ refl
+zero-lines (suc (suc zero)) h = write-correct 2 _ refl
+zero-lines (suc (suc (suc zero))) h = write-correct 3 _ refl
 zero-lines (suc (suc (suc (suc n)))) h = let z : ⊥ = omega arith in absurd z
 
 pub hypothesisMet : HypothesisMet
-unfolding zeroLines
-hypothesisMet = met kept (newLine 0 zeroData) (newLine 1 zeroData) (newLine 2 zeroData) (newLine 3 zeroData) zero-lines
+hypothesisMet =
+    met kept (zeroLine 0) (zeroLine 1) (zeroLine 2) (zeroLine 3) zero-lines (λ address. blank-hurt address 1 3)
 
--- so repair returns it
-pub example-returned : (out marks : List ℕ) → holds (count (hypothesisMet .received)) out ≡ true
-    → length marks ≡ count (hypothesisMet .received)
-    → (repairOf (hypothesisMet .received) out marks .answer ≡ 0)
-    × (repairOf (hypothesisMet .received) out marks .lines ≡ hypothesisMet .written .lines)
+-- so repair returns it, lines and tables
+pub example-returned : (b : Buffers) → Room (hypothesisMet .received) b
+    → Returned (hypothesisMet .written) (repairOf (hypothesisMet .received) b)
 example-returned = exactReturn _ _ (hypothesisMet .whole) (hypothesisMet .damaged)

@@ -12,6 +12,7 @@ pub mod Written
 pub mod Damaged
 pub mod Order
 pub mod Demand3
+pub mod Before
 pub mod NoneWrong
 pub mod FourLines
 pub mod Agreement

@@ -3,12 +3,13 @@
 use mathlib.Core.Path.{_≡_, refl, sym, ap, _∙_, subst}
 use mathlib.Core.Logic.{_⊎_, _↔_, inl, inr}
 use mathlib.Core.Bool.{true}
-use mathlib.Core.List.{List}
+use mathlib.Core.List.{List, []}
 use Prim.Native.Nat.{ℕ, suc-le-suc}
-use lib.ListN.{length}
-use Rattle.gf2.specs.Word.{Word}
-use Rattle.linecode.specs.Places.{linePlaces, dataBytes, places, lineOf, loaded}
-use Rattle.linecode.specs.Code.{dataOf, codeword, Correct, isCorrect}
+use lib.ListN.{length, replicate}
+use Rattle.gf2.specs.Word.{Word, _⊕_, flip}
+use Rattle.gf2.specs.Generator.{generator, generatorPolynomial}
+use Rattle.linecode.specs.Places.{dataPlaces, protectedPlaces, hammingPlaces, linePlaces, dataBytes, places, lineOf, loaded}
+use Rattle.linecode.specs.Code.{protected, dataOf, accepted, hammingColumns, positions, hamming, withCrc, withHamming, codeword, Correct, isCorrect, columns, syndrome, naming, answerTo}
 use Rattle.linecode.specs.Reading.{readAlone}
 use Rattle.linecode.specs.Entry.{written, reading}
 use Rattle.promises.specs.Promises as Line
@@ -17,7 +18,7 @@ use Rattle.promises.proofs.Promises.{promises}
 use Rattle.promises.proofs.LineLayout.{layout}
 use Rattle.linecode.proofs.Loading.{written-loaded}
 use Rattle.scheme.specs.Layer.{readLine, CorrectLine, parityAddress, ReadsAs, Promises}
-use Rattle.scheme.specs.Visit.{Group}
+use Rattle.scheme.specs.Visit.{Group, isFaulty}
 use Rattle.scheme.specs.Marks.{MarksTell}
 use Rattle.scheme.specs.Readings.{Agreeing}
 use Rattle.rectangle.specs.Store.{readUnder, writeUnder, CorrectUnder, isCorrectUnder, lineLayer, bytesAt, placesAt, aloneAt, inBytes}
@@ -100,3 +101,9 @@ module _ (n : ℕ) (payload : List ℕ) where
       → new ≡ lineOf (newLine n payload)
   unfolding newLine writeUnder written
   rewrites e found new f g = written-loaded payload found new e f g
+
+-- ---- a case, by computation: the exclusive or of two lines of zero data, hurt at places 0 and 1, is faulty
+pub blank-hurt : (address n m : ℕ)
+    → isFaulty (readUnder address (flip 1 (flip 0 (newLine n (replicate 64 0) ⊕ (newLine m (replicate 64 0) ⊕ []))))) ≡ true
+unfolding generator generatorPolynomial dataPlaces protectedPlaces hammingPlaces linePlaces protected accepted hammingColumns positions hamming withCrc withHamming codeword columns syndrome naming answerTo readAlone readUnder writeUnder newLine
+blank-hurt address n m = refl
