@@ -83,7 +83,7 @@ module _ (r : Rectangle) where
     unfolding end found repairedBy
     within-end = omega (arith, within, repair-length (readLine lineLayer) (groupsOf r) found)
 
-    pub accepted-stays : acceptedAt (r .lines) n ≡ true → cellAt end n ≡ aloneAt (r .lines) n
+    accepted-stays : acceptedAt (r .lines) n ≡ true → cellAt end n ≡ aloneAt (r .lines) n
     unfolding end found repairedBy acceptedAt aloneAt
     accepted-stays a =
         repair-stays (readLine lineLayer) (groupsOf r) found .accepted n
