@@ -129,7 +129,7 @@ module _ (rows columns : ℕ) (some : 0 < columns) where
         (in-map (columnGroup rows columns columnTable) (upFrom 0 columns) c (rw zero-add at (in-upFrom 0 columns c h)))
 
     -- every group is a row or a column
-    pub row-or-column : (g : Group) → g ∈ groups rows columns rowTable columnTable
+    row-or-column : (g : Group) → g ∈ groups rows columns rowTable columnTable
         → ((r : ℕ) × (r < rows) × (g ≡ rowGroup columns rowTable r))
         ⊎ ((c : ℕ) × (c < columns) × (g ≡ columnGroup rows columns columnTable c))
     unfolding groups rowGroups columnGroups
@@ -155,21 +155,6 @@ module _ (rows columns : ℕ) (some : 0 < columns) where
             ⊎ ((c : ℕ) × (c < columns) × (g ≡ columnGroup rows columns columnTable c)) → P g
         go (inl r) = subst P (sym (r .2)) (h (r .0) (r .1))
         go (inr c) = subst P (sym (c .2)) (k (c .0) (c .1))
-
-    -- a line is in no group but its row and its column
-    pub home-groups : (g : Group) → g ∈ groups rows columns rowTable columnTable → (n : ℕ) → n ∈ g .members
-        → (g ≡ rowGroup columns rowTable (n / columns)) ⊎ (g ≡ columnGroup rows columns columnTable (n % columns))
-    home-groups g i n = go (row-or-column g i)
-      where
-        go : ((r : ℕ) × (r < rows) × (g ≡ rowGroup columns rowTable r))
-            ⊎ ((c : ℕ) × (c < columns) × (g ≡ columnGroup rows columns columnTable c)) → n ∈ g .members
-            → (g ≡ rowGroup columns rowTable (n / columns)) ⊎ (g ≡ columnGroup rows columns columnTable (n % columns))
-        go (inl r) j =
-            let e : n / columns ≡ r .0 = row-number (r .0) n (subst (λ (h : Group). n ∈ h .members) (r .2) j) in
-            inl (r .2 ∙ ap (rowGroup columns rowTable) (sym e))
-        go (inr c) j =
-            let e : n % columns ≡ c .0 = column-number (c .0) n (c .1) (subst (λ (h : Group). n ∈ h .members) (c .2) j) in
-            inr (c .2 ∙ ap (columnGroup rows columns columnTable) (sym e))
 
     pub rising-groups : RisingGroups (groups rows columns rowTable columnTable)
     rising-groups = by-groups (λ g. Rising (g .members)) (λ r h. rising-row r) (λ c h. rising-column c)
