@@ -1,8 +1,8 @@
 -- A line that was read is added to its row's difference, which is carried apart, and to its column's; then a piece of a row, line by line.
-use mathlib.Core.Path.{_≡_, sym, ap, _∙_, subst}
+use mathlib.Core.Path.{_≡_, refl, sym, ap, _∙_, subst}
 use mathlib.Core.Logic.{_⊎_, inl, inr}
 use mathlib.Core.Bool.{Bool, true, false, cond}
-use mathlib.Core.List.{List, [], _∷_}
+use mathlib.Core.List.{List, [], _∷_, _++_}
 use Prim.Native.Nat.{ℕ, suc, _+_, _*_, _/_, _%_, _≤_, _<_}
 use native.Mathlib.Decide.{ℕ-discrete, decLt}
 use native.Mathlib.Nat.{mul-le-mul-right}
@@ -25,6 +25,7 @@ use Rattle.groups.specs.Lent.{Beside, membersOf, groupOf}
 use Rattle.groups.proofs.Numbers.{row-of, column-of, members-rising, homes, members-few}
 use Rattle.groups.proofs.Beside.{one-if, clean-sum, beside-elsewhere, beside-here}
 use Rattle.groups.proofs.Added.{put-same, put-other}
+use Rattle.groups.proofs.Joined.{joined-length, table-line, second-added}
 use Rattle.groups.proofs.Rooms.{read-long}
 use Rattle.first_reading.specs.Lent.{readFirst, RowOpen, Piece, SomePiece}
 use Rattle.first_reading.proofs.FirstReading.{length-readFirst, one-more, begun-line, begun-mark}
@@ -46,7 +47,7 @@ count-few rows columns parity s line count k rh ch h b =
 -- ---- line n, which stands in row r and column c
 module _ (rows columns : ℕ) (parity : ℕ → Word) (found lacks faulty : List ℕ) (r c n : ℕ) (difference : List ℕ) (hurt : ℕ) (r-in : r < rows) (c-in : c < columns)
     (n-is : n ≡ r * columns + c) (rowsHigh : rows ≤ 512) (columnsHigh : columns ≤ 512) (foundBytes : length found ≡ rows * columns * 70)
-    (lackBytes : length lacks ≡ 71680) (o : RowOpen rows columns parity found lacks faulty r n difference hurt) where
+    (lackBytes : length lacks ≡ (rows + columns) * 70) (o : RowOpen rows columns parity found lacks faulty r n difference hurt) where
   some-columns : 0 < columns
   some-columns = omega arith
 
@@ -154,8 +155,8 @@ module _ (rows columns : ℕ) (parity : ℕ → Word) (found lacks faulty : List
               (o .own) u v;
         }
       where
-        few : rows + c < 1024
-        few = omega arith
+        here : rows + c < rows + columns
+        here = omega arith
 
         old : Beside (groupOf rows columns parity (rows + c)) (readFirst found n) (bytesAt lacks (rows + c)) (getD faulty (rows + c) 0)
         old = o .others (rows + c) (omega arith) (λ (y : rows + c ≡ r). omega arith)
@@ -169,11 +170,11 @@ module _ (rows columns : ℕ) (parity : ℕ → Word) (found lacks faulty : List
             subst (λ (j : ℕ). Beside (groupOf rows columns parity j) (readFirst found (suc n)) (bytesAt lacks′ j) (getD faulty′ j 0)) (sym x)
             (touched (rows + c) (omega arith) (subst (λ (l : List ℕ). n ∈ l) (sym (column-of rows columns c)) in-its-column) (bytesAt lacks (rows + c)) _
             (getD faulty (rows + c) 0) _ old
-            (ap (λ (l : List ℕ). bytesAt l (rows + c)) g ∙ put-same lacks lackBytes (rows + c) few _ _ sum-is ∙ sym sum-is) p)
+            (ap (λ (l : List ℕ). bytesAt l (rows + c)) g ∙ put-same (rows + columns) lacks lackBytes (rows + c) here _ _ sum-is ∙ sym sum-is) p)
         each k h d (no x) =
             beside-elsewhere (readFirst found n) (readFirst found (suc n)) n apart (groupOf rows columns parity k) _ _ absent
             (subst (λ (l : List ℕ). Beside (groupOf rows columns parity k) (readFirst found n) l (getD faulty′ k 0))
-            (sym (ap (λ (l : List ℕ). bytesAt l k) g ∙ put-other lacks lackBytes (rows + c) few _ _ sum-is k (omega arith) x))
+            (sym (ap (λ (l : List ℕ). bytesAt l k) g ∙ put-other (rows + columns) lacks lackBytes (rows + c) here _ _ sum-is k h x))
             (subst (λ (a : ℕ). Beside (groupOf rows columns parity k) (readFirst found n) (bytesAt lacks k) a) (sym (q k x)) (o .others k h d)))
           where
             absent : n ∈ membersOf rows columns k → ⊥
@@ -186,20 +187,21 @@ module _ (rows columns : ℕ) (parity : ℕ → Word) (found lacks faulty : List
 -- ---- a piece: i of its lines are added
 pub record Adding (rows : ℕ) (out marks lacks₀ faulty₀ : List ℕ) (n c count : ℕ) (difference₀ : List ℕ) (hurt₀ : ℕ) (lacks faulty difference : List ℕ) (hurt i : ℕ) : Type 0 where
   pub few : i ≤ count
-  pub lackBytes : length lacks ≡ 71680
+  pub same : length lacks ≡ length lacks₀
   pub counts : length faulty ≡ 1024
-  pub store : (columns : ℕ) (parity : ℕ → Word) (found : List ℕ) (r : ℕ)
-      → Piece rows columns parity found out marks lacks₀ faulty₀ r n c count difference₀ hurt₀
-      → RowOpen rows columns parity found lacks faulty r (n + i) difference hurt
+  pub store : (columns : ℕ) (parity : ℕ → Word) (found : List ℕ) (r : ℕ) (rowLacks : List ℕ) → length rowLacks ≡ rows * 70
+      → Piece rows columns parity found out marks (rowLacks ++ lacks₀) faulty₀ r n c count difference₀ hurt₀
+      → RowOpen rows columns parity found (rowLacks ++ lacks) faulty r (n + i) difference hurt
 
--- line n, of column k - rows: it stands inside the buffers, and the numbers beside it are small
-pub record Place (rows : ℕ) (out marks faulty : List ℕ) (hurt n k : ℕ) : Type 0 where
+-- line n, of column c: it stands inside the buffers, and the numbers beside it are small
+pub record Place (rows : ℕ) (out marks lacks faulty : List ℕ) (hurt n c : ℕ) : Type 0 where
   pub line : suc n * 70 ≤ length out
   pub mark : n < length marks
   pub small : n < 262144
-  pub group : k < 1024
+  pub group : rows + c < 1024
+  pub lack : suc c * 70 ≤ length lacks
   pub ownFew : hurt ≤ 512
-  pub columnFew : getD faulty k 0 ≤ 512
+  pub columnFew : getD faulty (rows + c) 0 ≤ 512
 
 module _ (rows : ℕ) (out marks lacks₀ faulty₀ : List ℕ) (n c count : ℕ) (difference₀ : List ℕ) (hurt₀ : ℕ) where
   pub adding-start : SomePiece rows out marks lacks₀ faulty₀ n c count difference₀ hurt₀
@@ -207,44 +209,57 @@ module _ (rows : ℕ) (out marks lacks₀ faulty₀ : List ℕ) (n c count : ℕ
   adding-start some =
       record {
         few = omega arith;
-        lackBytes = some .4 .room .lackBytes;
-        counts = some .4 .room .counts;
-        store = λ columns parity found r p. subst (λ (k : ℕ). RowOpen rows columns parity found lacks₀ faulty₀ r k difference₀ hurt₀) (same n) (p .opened);
+        same = refl;
+        counts = some .7 .room .counts;
+        store = λ columns parity found r rowLacks e p.
+            subst (λ (k : ℕ). RowOpen rows columns parity found (rowLacks ++ lacks₀) faulty₀ r k difference₀ hurt₀) (same n) (p .opened);
       }
     where
       same : (n : ℕ) → n ≡ n + 0
       same n = omega arith
 
   module _ (lacks faulty difference : List ℕ) (hurt i : ℕ) (a : Adding rows out marks lacks₀ faulty₀ n c count difference₀ hurt₀ lacks faulty difference hurt i) where
-    pub adding-end : count ≤ i → (columns : ℕ) (parity : ℕ → Word) (found : List ℕ) (r : ℕ)
-        → Piece rows columns parity found out marks lacks₀ faulty₀ r n c count difference₀ hurt₀
-        → RowOpen rows columns parity found lacks faulty r (n + count) difference hurt
-    adding-end h columns parity found r p =
-        subst (λ (k : ℕ). RowOpen rows columns parity found lacks faulty r (n + k) difference hurt) last (a .store columns parity found r p)
+    pub adding-end : count ≤ i → (columns : ℕ) (parity : ℕ → Word) (found : List ℕ) (r : ℕ) (rowLacks : List ℕ) → length rowLacks ≡ rows * 70
+        → Piece rows columns parity found out marks (rowLacks ++ lacks₀) faulty₀ r n c count difference₀ hurt₀
+        → RowOpen rows columns parity found (rowLacks ++ lacks) faulty r (n + count) difference hurt
+    adding-end h columns parity found r rowLacks e p =
+        subst (λ (k : ℕ). RowOpen rows columns parity found (rowLacks ++ lacks) faulty r (n + k) difference hurt) last
+        (a .store columns parity found r rowLacks e p)
       where
         last : i ≡ count
         last = omega (arith, a .few)
 
     module _ (more : i < count) where
       -- the line's number by its row and its column
-      number : (columns : ℕ) (parity : ℕ → Word) (found : List ℕ) (r : ℕ)
-          → Piece rows columns parity found out marks lacks₀ faulty₀ r n c count difference₀ hurt₀ → n + i ≡ r * columns + (c + i)
-      number columns parity found r p = omega (arith, p .here)
+      number : (columns : ℕ) (parity : ℕ → Word) (found : List ℕ) (r : ℕ) (rowLacks : List ℕ)
+          → Piece rows columns parity found out marks (rowLacks ++ lacks₀) faulty₀ r n c count difference₀ hurt₀
+          → n + i ≡ r * columns + (c + i)
+      number columns parity found r rowLacks p = omega (arith, p .here)
+
+      -- the bytes of both tables
+      long : (columns : ℕ) (parity : ℕ → Word) (found : List ℕ) (r : ℕ) (rowLacks : List ℕ)
+          → Piece rows columns parity found out marks (rowLacks ++ lacks₀) faulty₀ r n c count difference₀ hurt₀
+          → length (rowLacks ++ lacks) ≡ (rows + columns) * 70
+      long columns parity found r rowLacks p =
+          joined-length rowLacks lacks₀ rowLacks lacks refl (a .same) ∙ p .room .lackBytes
 
       pub adding-place : SomePiece rows out marks lacks₀ faulty₀ n c count difference₀ hurt₀
-          → Place rows out marks faulty hurt (n + i) (rows + (c + i))
+          → Place rows out marks lacks faulty hurt (n + i) (c + i)
       adding-place some =
           record {
             line = omega (arith, below, p .room .rect .outBytes);
             mark = omega (arith, below, p .room .rect .markBytes);
             small = omega (arith, below, mul-le-mul-right columns rowsHigh, columnsHigh);
             group = omega (arith, here, rowsHigh, columnsHigh);
+            lack = table-line (length lacks) columns (c + i) (a .same ∙ some .6) here;
             ownFew =
-                own-few rows columns parity found lacks faulty r (c + i) (n + i) difference hurt (p .listed) here (number columns parity found r p) rowsHigh columnsHigh
-                (p .bytes) (a .lackBytes) (a .store columns parity found r p);
+                own-few rows columns parity found (rowLacks ++ lacks) faulty r (c + i) (n + i) difference hurt (p .listed) here
+                (number columns parity found r rowLacks p) rowsHigh columnsHigh (p .bytes) (long columns parity found r rowLacks p)
+                (a .store columns parity found r rowLacks (some .5) p);
             columnFew =
-                column-few rows columns parity found lacks faulty r (c + i) (n + i) difference hurt (p .listed) here (number columns parity found r p) rowsHigh columnsHigh
-                (p .bytes) (a .lackBytes) (a .store columns parity found r p);
+                column-few rows columns parity found (rowLacks ++ lacks) faulty r (c + i) (n + i) difference hurt (p .listed) here
+                (number columns parity found r rowLacks p) rowsHigh columnsHigh (p .bytes) (long columns parity found r rowLacks p)
+                (a .store columns parity found r rowLacks (some .5) p);
           }
         where
           columns : ℕ
@@ -259,8 +274,11 @@ module _ (rows : ℕ) (out marks lacks₀ faulty₀ : List ℕ) (n c count : ℕ
           r : ℕ
           r = some .3
 
-          p : Piece rows columns parity found out marks lacks₀ faulty₀ r n c count difference₀ hurt₀
-          p = some .4
+          rowLacks : List ℕ
+          rowLacks = some .4
+
+          p : Piece rows columns parity found out marks (rowLacks ++ lacks₀) faulty₀ r n c count difference₀ hurt₀
+          p = some .7
 
           rowsHigh : rows ≤ 512
           rowsHigh = p .room .rect .rowsHigh
@@ -272,11 +290,11 @@ module _ (rows : ℕ) (out marks lacks₀ faulty₀ : List ℕ) (n c count : ℕ
           here = omega (arith, p .inside)
 
           below : n + i < rows * columns
-          below = omega (arith, number columns parity found r p, line-inside rows columns (omega (arith, here)) r (c + i) (p .listed) here)
+          below = omega (arith, number columns parity found r rowLacks p, line-inside rows columns (omega (arith, here)) r (c + i) (p .listed) here)
 
       -- a line is added
       module _ (line lacks′ difference′ : List ℕ) (line-is : line ≡ bytesAt out (n + i)) (lacks-long : length lacks′ ≡ length lacks)
-          (lacks-is : lacks′ ≡ putBytes lacks (rows + (c + i)) (xorBytes (bytesAt lacks (rows + (c + i))) line))
+          (lacks-is : lacks′ ≡ putBytes lacks (c + i) (xorBytes (bytesAt lacks (c + i)) line))
           (difference-is : difference′ ≡ xorBytes difference line) where
         turn : (faulty′ : List ℕ) (hurt′ : ℕ) (f : Bool) → eqb (getD marks (n + i) 0) 4 ≡ f → length faulty′ ≡ length faulty
             → (rows + (c + i) < 1024 → getD faulty′ (rows + (c + i)) 0 ≡ getD faulty (rows + (c + i)) 0 + one-if f)
@@ -285,16 +303,18 @@ module _ (rows : ℕ) (out marks lacks₀ faulty₀ : List ℕ) (n c count : ℕ
         turn faulty′ hurt′ f m e g q v =
             record {
               few = omega arith;
-              lackBytes = lacks-long ∙ a .lackBytes;
+              same = lacks-long ∙ a .same;
               counts = e ∙ a .counts;
-              store = λ columns parity found r p.
+              store = λ columns parity found r rowLacks l p.
                   let h : n + i < n + count = omega arith in
                   let here : c + i < columns = omega (arith, p .inside) in
-                  subst (λ (k : ℕ). RowOpen rows columns parity found lacks′ faulty′ r k difference′ hurt′) (next n i)
-                  (turned rows columns parity found lacks faulty r (c + i) (n + i) difference hurt (p .listed) here (number columns parity found r p)
-                  (p .room .rect .rowsHigh) (p .room .rect .columnsHigh) (p .bytes) (a .lackBytes) (a .store columns parity found r p) line
+                  subst (λ (k : ℕ). RowOpen rows columns parity found (rowLacks ++ lacks′) faulty′ r k difference′ hurt′) (next n i)
+                  (turned rows columns parity found (rowLacks ++ lacks) faulty r (c + i) (n + i) difference hurt (p .listed) here
+                  (number columns parity found r rowLacks p) (p .room .rect .rowsHigh) (p .room .rect .columnsHigh) (p .bytes)
+                  (long columns parity found r rowLacks p) (a .store columns parity found r rowLacks l p) line
                   (getD marks (n + i) 0) (line-is ∙ begun-line found out marks (n + count) (p .begun) (n + i) h)
-                  (begun-mark found out marks (n + count) (p .begun) (n + i) h) f m lacks′ faulty′ difference′ hurt′ lacks-is
+                  (begun-mark found out marks (n + count) (p .begun) (n + i) h) f m (rowLacks ++ lacks′) faulty′ difference′ hurt′
+                  (ap (λ (x : List ℕ). rowLacks ++ x) lacks-is ∙ second-added rowLacks lacks rows l (c + i) line)
                   (g (omega (arith, p .room .rect .rowsHigh, p .room .rect .columnsHigh))) q difference-is v);
             }
           where

@@ -118,22 +118,21 @@ module _ (rows columns : ℕ) (found out₀ marks₀ lacks₀ faulty₀ : List �
         o : RowOpen rows columns parity found lacks faulty r (first + c) difference hurt
         o = sweep .opened parity u
 
-        few : r < 1024
-        few = omega (arith, sweep .room .rect .rowsHigh)
+        here : r < rows + columns
+        here = omega arith
 
         each : (k : ℕ) → k < rows + columns → Dec (k ≡ r)
             → Beside (groupOf rows columns parity k) (readFirst found (first + c)) (bytesAt last k) (getD counts k 0)
         each k i (yes x) =
             subst (λ (j : ℕ). Beside (groupOf rows columns parity j) (readFirst found (first + c)) (bytesAt last j) (getD counts j 0)) (sym x)
             (subst (λ (l : List ℕ). Beside (groupOf rows columns parity r) (readFirst found (first + c)) l (getD counts r 0))
-            (sym (ap (λ (b : List ℕ). bytesAt b r) e ∙ put-same lacks (sweep .room .lackBytes) r few difference _ (o .own .lack) ∙ sym (o .own .lack)))
+            (sym (ap (λ (b : List ℕ). bytesAt b r) e ∙ put-same (rows + columns) lacks (sweep .room .lackBytes) r here difference _ (o .own .lack) ∙ sym (o .own .lack)))
             (subst (λ (a : ℕ). Beside (groupOf rows columns parity r) (readFirst found (first + c)) difference a)
-            (sym (ap (λ (l : List ℕ). getD l r 0) f ∙ getD-set-same faulty r hurt 0 (omega (arith, sweep .room .counts)))) (o .own)))
+            (sym (ap (λ (l : List ℕ). getD l r 0) f ∙ getD-set-same faulty r hurt 0 (omega (arith, sweep .room .counts, sweep .room .rect .rowsHigh)))) (o .own)))
         each k i (no x) =
             subst (λ (l : List ℕ). Beside (groupOf rows columns parity k) (readFirst found (first + c)) l (getD counts k 0))
             (sym (ap (λ (b : List ℕ). bytesAt b k) e
-            ∙ put-other lacks (sweep .room .lackBytes) r few difference _ (o .own .lack) k
-            (omega (arith, sweep .room .rect .rowsHigh, sweep .room .rect .columnsHigh)) x))
+            ∙ put-other (rows + columns) lacks (sweep .room .lackBytes) r here difference _ (o .own .lack) k i x))
             (subst (λ (a : ℕ). Beside (groupOf rows columns parity k) (readFirst found (first + c)) (bytesAt lacks k) a)
             (sym (ap (λ (l : List ℕ). getD l k 0) f ∙ getD-set-other faulty r k hurt 0 x)) (o .others k i x))
 

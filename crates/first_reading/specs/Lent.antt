@@ -37,11 +37,12 @@ pub record Piece (rows columns : ℕ) (parity : ℕ → Word) (found out marks l
   pub begun : Begun out marks (readFirst found (n + count))
   pub opened : RowOpen rows columns parity found lacks faulty r n difference hurt
 
--- they are such a piece of some rectangle
+-- they are such a piece of some rectangle, whose rows' differences stand elsewhere
 abbrev pub SomePiece : ℕ → List ℕ → List ℕ → List ℕ → List ℕ → ℕ → ℕ → ℕ → List ℕ → ℕ → Type 0
-SomePiece rows out marks lacks faulty n c count difference hurt =
-    (columns : ℕ) × (parity : (ℕ → Word)) × (found : List ℕ) × (r : ℕ)
-    × Piece rows columns parity found out marks lacks faulty r n c count difference hurt
+SomePiece rows out marks columnLacks faulty n c count difference hurt =
+    (columns : ℕ) × (parity : (ℕ → Word)) × (found : List ℕ) × (r : ℕ) × (rowLacks : List ℕ) × (length rowLacks ≡ rows * 70)
+    × (length columnLacks ≡ columns * 70)
+    × Piece rows columns parity found out marks (rowLacks ++ columnLacks) faulty r n c count difference hurt
 
 -- n lines are read
 pub record ReadUpTo (rows columns : ℕ) (parity : ℕ → Word) (found out marks lacks faulty : List ℕ) (n : ℕ) : Type 0 where

@@ -1,7 +1,7 @@
 // The first reading: one sweep over all lines, row after row. Document 01, "Repair".
 // `read_all` is public for `repair`, which has tested or made what it asks; not an entry point.
 ghost use mathlib.Core.Path.{_≡_};
-ghost use mathlib.Core.List.{List, []};
+ghost use mathlib.Core.List.{List, [], _++_};
 ghost use Prim.Native.Nat.{ℕ, _+_, _*_, _≤_, _<_};
 ghost use lib.ListN.{length};
 ghost use Rattle.gf2.specs.Word.{Word};
@@ -55,7 +55,7 @@ fn read_piece(
 fn add_piece(
     out: &[u8],
     marks: &[u8],
-    lacks: &mut [u8],
+    column_lacks: &mut [u8],
     faulty: &mut [u16],
     rows: usize,
     n: usize,
@@ -63,11 +63,12 @@ fn add_piece(
     count: usize,
     row: OpenRow,
 ) -> OpenRow
-    requires { ⌜ SomePiece rows (now out) (now marks) (now lacks) (now faulty) n (column .0) count (row .difference) (row .hurt) ⌝ }
-    ensures { λ s. ⌜ ((columns : ℕ) (parity : ℕ → Word) (found : List ℕ) (r : ℕ)
-        → Piece rows columns parity found (now (out .entry)) (now (marks .entry)) (now (lacks .entry)) (now (faulty .entry))
-        r n (column .0) count (row .difference) (row .hurt)
-        → RowOpen rows columns parity found (now (lacks .exit)) (now (faulty .exit)) r (n + count) (s .difference) (s .hurt)) ⌝ }
+    requires { ⌜ SomePiece rows (now out) (now marks) (now «column_lacks») (now faulty) n (column .0) count (row .difference) (row .hurt) ⌝ }
+    ensures { λ s. ⌜ ((columns : ℕ) (parity : ℕ → Word) (found : List ℕ) (r : ℕ) (rowLacks : List ℕ) → length rowLacks ≡ rows * 70
+        → Piece rows columns parity found (now (out .entry)) (now (marks .entry)) (rowLacks ++ now («column_lacks» .entry))
+        (now (faulty .entry)) r n (column .0) count (row .difference) (row .hurt)
+        → RowOpen rows columns parity found (rowLacks ++ now («column_lacks» .exit)) (now (faulty .exit)) r (n + count)
+        (s .difference) (s .hurt)) ⌝ }
 {
     let mut difference = row.difference;
     let mut hurt = row.hurt;
@@ -78,7 +79,7 @@ fn add_piece(
         let line = lines::line_at(out, m);
         let next = place::xor_bytes(difference, line);
         difference = next;
-        tracked::add_to_column(lacks, rows, own, line);
+        lines::add_to_column_sum(column_lacks, own, line);
         if marks[m] == 4 {
             hurt += 1;
             tracked::one_more_in_column(faulty, rows, own);
@@ -106,7 +107,8 @@ fn read_row(
     found: &[u8],
     out: &mut [u8],
     marks: &mut [u8],
-    lacks: &mut [u8],
+    row_lacks: &mut [u8],
+    column_lacks: &mut [u8],
     faulty: &mut [u16],
     rows: usize,
     columns: usize,
@@ -114,15 +116,16 @@ fn read_row(
     first: usize,
 )
     requires table { ⌜ now table ≡ lineTable ⌝ }
-    requires room { ⌜ Room rows columns (now out) (now marks) (now lacks) (now faulty) ⌝ }
-    requires row { ⌜ (length (now found) ≡ rows * columns * 70) × (row .0 < rows) × (first ≡ row .0 * columns) ⌝ }
+    requires room { ⌜ Room rows columns (now out) (now marks) (now «row_lacks» ++ now «column_lacks») (now faulty) ⌝ }
+    requires row { ⌜ (length (now found) ≡ rows * columns * 70) × (row .0 < rows) × (first ≡ row .0 * columns)
+        × (length (now «row_lacks») ≡ rows * 70) × (length (now «column_lacks») ≡ columns * 70) ⌝ }
     requires some { ⌜ ((parity : (ℕ → Word))
-        × ReadUpTo rows columns parity (now found) (now out) (now marks) (now lacks) (now faulty) first) ⌝ }
+        × ReadUpTo rows columns parity (now found) (now out) (now marks) (now «row_lacks» ++ now «column_lacks») (now faulty) first) ⌝ }
     ensures { λ _. ⌜ ReadsOn rows columns (now (found .entry))
-        (now (out .entry)) (now (marks .entry)) (now (lacks .entry)) (now (faulty .entry))
-        (now (out .exit)) (now (marks .exit)) (now (lacks .exit)) (now (faulty .exit)) first (first + columns) ⌝ }
+        (now (out .entry)) (now (marks .entry)) (now («row_lacks» .entry) ++ now («column_lacks» .entry)) (now (faulty .entry))
+        (now (out .exit)) (now (marks .exit)) (now («row_lacks» .exit) ++ now («column_lacks» .exit)) (now (faulty .exit)) first (first + columns) ⌝ }
 {
-    let mut difference = tracked::difference(lacks, rows, Which::Row(row));
+    let mut difference = lines::row_parity(row_lacks, row);
     let mut hurt = tracked::count(faulty, rows, Which::Row(row));
     let mut c = 0;
     while c < columns {
@@ -131,13 +134,13 @@ fn read_row(
         read_piece(table, found, out, marks, n, count);
         let open = OpenRow { difference, hurt };
         let column = ColumnIndex(c);
-        let next = add_piece(out, marks, lacks, faulty, rows, n, column, count, open);
+        let next = add_piece(out, marks, column_lacks, faulty, rows, n, column, count, open);
         let sum = next.difference;
         difference = sum;
         hurt = next.hurt;
         c += count;
     }
-    tracked::put_row_difference(lacks, row, difference);
+    lines::put_row_parity(row_lacks, row, difference);
     tracked::put_row_count(faulty, row, hurt);
 }
 
@@ -147,17 +150,19 @@ pub fn read_all(
     found: &[u8],
     out: &mut [u8],
     marks: &mut [u8],
-    lacks: &mut [u8],
+    row_lacks: &mut [u8],
+    column_lacks: &mut [u8],
     faulty: &mut [u16],
     rows: usize,
     columns: usize,
 )
     requires table { ⌜ now table ≡ lineTable ⌝ }
-    requires room { ⌜ Room rows columns (now out) (now marks) (now lacks) (now faulty) ⌝ }
-    requires lines { ⌜ length (now found) ≡ rows * columns * 70 ⌝ }
-    requires some { ⌜ ((parity : (ℕ → Word)) × Tracked rows columns parity (now lacks) (now faulty) []) ⌝ }
-    ensures { λ _. ⌜ ((parity : ℕ → Word) → Tracked rows columns parity (now (lacks .entry)) (now (faulty .entry)) []
-        → Carried rows columns parity (now (out .exit)) (now (marks .exit)) (now (lacks .exit)) (now (faulty .exit))
+    requires room { ⌜ Room rows columns (now out) (now marks) (now «row_lacks» ++ now «column_lacks») (now faulty) ⌝ }
+    requires lines { ⌜ (length (now found) ≡ rows * columns * 70) × (length (now «row_lacks») ≡ rows * 70)
+        × (length (now «column_lacks») ≡ columns * 70) ⌝ }
+    requires some { ⌜ ((parity : (ℕ → Word)) × Tracked rows columns parity (now «row_lacks» ++ now «column_lacks») (now faulty) []) ⌝ }
+    ensures { λ _. ⌜ ((parity : ℕ → Word) → Tracked rows columns parity (now («row_lacks» .entry) ++ now («column_lacks» .entry)) (now (faulty .entry)) []
+        → Carried rows columns parity (now (out .exit)) (now (marks .exit)) (now («row_lacks» .exit) ++ now («column_lacks» .exit)) (now (faulty .exit))
         (readAll (readLine lineLayer) 0 (linesIn (rows * columns) (now (found .entry))))) ⌝ }
 {
     let mut first = 0;
@@ -168,7 +173,8 @@ pub fn read_all(
             found,
             out,
             marks,
-            lacks,
+            row_lacks,
+            column_lacks,
             faulty,
             rows,
             columns,

@@ -89,22 +89,22 @@ zero-lineOf w e = equal (allZero (lineOf w)) (isZero w) there back
     equal false true f g = g refl
     equal false false f g = refl
 
--- ---- line k of 1024 put anew
-module _ (lacks : List ℕ) (whole : length lacks ≡ 71680) (k : ℕ) (inside : k < 1024) where
-  bytes : length lacks ≡ 1024 * lineBytes
-  bytes = whole ∙ ap (λ (n : ℕ). 1024 * n) (sym bytes-is)
+-- ---- line k of so many put anew
+module _ (total : ℕ) (lacks : List ℕ) (whole : length lacks ≡ total * 70) (k : ℕ) (inside : k < total) where
+  bytes : length lacks ≡ total * lineBytes
+  bytes = whole ∙ ap (λ (n : ℕ). total * n) (sym bytes-is)
 
   module _ (line : List ℕ) (w : Word) (line-is : line ≡ lineOf w) where
     put-is : putBytes lacks k line ≡ putLine lacks k w
     unfolding putLine
     put-is = ap (putBytes lacks k) line-is
 
-    pub put-length : length (putBytes lacks k line) ≡ 71680
+    pub put-length : length (putBytes lacks k line) ≡ total * 70
     put-length =
-        ap length put-is ∙ length-putLine 1024 lacks bytes k inside w ∙ ap (λ (n : ℕ). 1024 * n) bytes-is
+        ap length put-is ∙ length-putLine total lacks bytes k inside w ∙ ap (λ (n : ℕ). total * n) bytes-is
 
     pub put-same : bytesAt (putBytes lacks k line) k ≡ lineOf w
-    put-same = ap (λ (b : List ℕ). bytesAt b k) put-is ∙ bytesAt-put 1024 lacks bytes k inside w
+    put-same = ap (λ (b : List ℕ). bytesAt b k) put-is ∙ bytesAt-put total lacks bytes k inside w
 
-    pub put-other : (m : ℕ) → m < 1024 → (m ≡ k → ⊥) → bytesAt (putBytes lacks k line) m ≡ bytesAt lacks m
-    put-other m h d = ap (λ (b : List ℕ). bytesAt b m) put-is ∙ bytesAt-other 1024 lacks bytes k inside w m h d
+    pub put-other : (m : ℕ) → m < total → (m ≡ k → ⊥) → bytesAt (putBytes lacks k line) m ≡ bytesAt lacks m
+    put-other m h d = ap (λ (b : List ℕ). bytesAt b m) put-is ∙ bytesAt-other total lacks bytes k inside w m h d

@@ -5,6 +5,7 @@ pub mod Numbers
 pub mod Held
 pub mod Rooms
 pub mod Added
+pub mod Joined
 pub mod Busy
 pub mod Listing
 pub mod Beside

@@ -1,7 +1,7 @@
 -- What the functions of one visit ask of lent buffers, and what they make of the store in them.
 use mathlib.Core.Path.{_≡_}
-use mathlib.Core.Bool.{Bool, cond}
-use mathlib.Core.List.{List}
+use mathlib.Core.Bool.{Bool, cond, _||_}
+use mathlib.Core.List.{List, _++_}
 use Prim.Native.Nat.{ℕ, zero, suc, _+_, _-_, _*_, _≤_, _<_}
 use lib.Dec.{eqb, ltb}
 use lib.ListN.{length, getD, take}
@@ -51,10 +51,10 @@ pub record Rectangular (rows columns : ℕ) (out marks : List ℕ) : Type 0 wher
   pub outBytes : length out ≡ rows * columns * 70
   pub markBytes : length marks ≡ rows * columns
 
--- beside them a line and a number for each group
+-- beside them a line and a number for each group: the lines are those of the two lent tables, one after the other
 pub record Room (rows columns : ℕ) (out marks lacks faulty : List ℕ) : Type 0 where
   pub rect : Rectangular rows columns out marks
-  pub lackBytes : length lacks ≡ 71680
+  pub lackBytes : length lacks ≡ (rows + columns) * 70
   pub counts : length faulty ≡ 1024
 
 -- group k in visiting order, the rows and then the columns: row k, or column k - rows
@@ -70,6 +70,19 @@ numberOf rows (Column c) = rows + c .0
 abbrev pub Within : ℕ → ℕ → Which → Type 0
 Within rows columns (Row r) = r .0 < rows
 Within rows columns (Column c) = c .0 < columns
+
+-- a group's difference out of its own table, and that it stands inside
+abbrev pub differenceOf : List ℕ → List ℕ → Which → List ℕ
+differenceOf rowLacks columnLacks (Row r) = bytesAt rowLacks (r .0)
+differenceOf rowLacks columnLacks (Column c) = bytesAt columnLacks (c .0)
+
+abbrev pub Reached : List ℕ → List ℕ → Which → Type 0
+Reached rowLacks columnLacks (Row r) = suc (r .0) * 70 ≤ length rowLacks
+Reached rowLacks columnLacks (Column c) = suc (c .0) * 70 ≤ length columnLacks
+
+-- group k is unusable, or its difference is 0
+unfoldable pub agreesAt : List ℕ → List ℕ → ℕ → Bool
+agreesAt lacks parityMarks k = eqb (getD parityMarks k 0) 4 || allZero (bytesAt lacks k)
 
 -- the lines of group k in visiting order: the rows, then the columns
 unfoldable pub membersOf : ℕ → ℕ → ℕ → List ℕ
@@ -101,10 +114,12 @@ abbrev pub Some : ℕ → ℕ → List ℕ → List ℕ → List ℕ → List �
 Some rows columns out marks lacks faulty =
     (parity : (ℕ → Word)) × (s : State) × Carried rows columns parity out marks lacks faulty s
 
--- buffers that have room and hold some store
-pub record Ready (rows columns : ℕ) (out marks lacks faulty : List ℕ) : Type 0 where
-  pub room : Room rows columns out marks lacks faulty
-  pub held : Some rows columns out marks lacks faulty
+-- buffers that have room and hold some store; each table has a line for each of its groups
+pub record Ready (rows columns : ℕ) (out marks rowLacks columnLacks faulty : List ℕ) : Type 0 where
+  pub room : Room rows columns out marks (rowLacks ++ columnLacks) faulty
+  pub held : Some rows columns out marks (rowLacks ++ columnLacks) faulty
+  pub rowBytes : length rowLacks ≡ rows * 70
+  pub columnBytes : length columnLacks ≡ columns * 70
 
 -- whatever store the buffers hold before, they hold f of it after
 abbrev pub Makes : ℕ → ℕ → List ℕ → List ℕ → List ℕ → List ℕ → List ℕ → List ℕ → List ℕ → List ℕ → ((ℕ → Word) → State → State) → Type 0
@@ -117,6 +132,11 @@ pub record Numbered (rows columns k first step count : ℕ) : Type 0 where
   pub listed : k < rows + columns
   pub lines : stride first step count ≡ membersOf rows columns k
   pub inside : Inside first step count (rows * columns)
+
+-- a row or a column of a rectangle with its lines
+pub record Picked (rows columns : ℕ) (which : Which) (first step count : ℕ) : Type 0 where
+  pub within : Within rows columns which
+  pub numbered : Numbered rows columns (numberOf rows which) first step count
 
 -- line k with a line added, byte by byte
 abbrev pub added : List ℕ → ℕ → List ℕ → List ℕ

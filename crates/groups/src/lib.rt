@@ -2,16 +2,18 @@
 // Public for `mending` and for `repair`, which have tested or made what these ask; not entry points.
 pub mod tracked;
 
-ghost use mathlib.Core.Bool.{false};
+ghost use mathlib.Core.Bool.{false, _||_};
 ghost use mathlib.Core.Path.{_≡_};
-ghost use Prim.Native.Nat.{ℕ, _+_, _≤_, _<_};
+ghost use mathlib.Core.List.{_++_};
+ghost use Prim.Native.Nat.{ℕ, _+_, _*_, _≤_, _<_};
+ghost use lib.Dec.{eqb};
 ghost use lib.ListN.{length, getD};
 ghost use Rattle.linecode.specs.Places.{places};
 ghost use Rattle.linecode.specs.Code.{upFrom};
 ghost use Rattle.scheme.specs.Visit.{setPlaces};
-ghost use Rattle.rectangle.specs.Store.{bytesAt, stride};
+ghost use Rattle.rectangle.specs.Store.{stride};
 ghost use Rattle.rectangle.specs.Refusals.{every};
-ghost use Rattle.groups.specs.Lent.{Inside, faultyAmong, Listed, allZero, Within, Numbered, whichOf, numberOf, countTo};
+ghost use Rattle.groups.specs.Lent.{Inside, faultyAmong, Listed, allZero, agreesAt, Within, Picked, whichOf, numberOf, differenceOf, Reached, countTo};
 use crate::tracked::Which;
 use linecode::place;
 use rectangle::lines::ColumnIndex;
@@ -45,7 +47,7 @@ pub fn nth(rows: usize, k: usize) -> Which
 // A group with its lines.
 pub fn choose(rows: usize, columns: usize, which: Which) -> Chosen
     requires { ⌜ (2 ≤ rows) × (rows ≤ 512) × (2 ≤ columns) × (columns ≤ 512) × Within rows columns which ⌝ }
-    ensures { λ r. ⌜ (r .which ≡ which) × Numbered rows columns (numberOf rows (r .which)) (r .first) (r .step) (r .count) ⌝ }
+    ensures { λ r. ⌜ (r .which ≡ which) × Picked rows columns (r .which) (r .first) (r .step) (r .count) ⌝ }
 {
     match which {
         Which::Row(row) => Chosen {
@@ -109,15 +111,45 @@ fn is_zero(line: [u8; 70]) -> bool
     true
 }
 
-// Whether the differences of all groups are 0.
-pub fn all_agree(rows: usize, columns: usize, lacks: &[u8]) -> bool
-    requires { ⌜ (rows ≤ 512) × (columns ≤ 512) × (length (now lacks) ≡ 71680) ⌝ }
-    ensures { λ r. ⌜ r ≡ every (λ k. allZero (bytesAt (now (lacks .entry)) k)) (upFrom 0 (rows + columns)) ⌝ }
+// Whether a group is unusable, or its difference is 0.
+fn agrees(
+    rows: usize,
+    row_lacks: &[u8],
+    column_lacks: &[u8],
+    parity_marks: &[u8],
+    which: Which,
+) -> bool
+    requires { ⌜ (numberOf rows which < 1024) × (length (now «parity_marks») ≡ 1024)
+        × Reached (now «row_lacks») (now «column_lacks») which ⌝ }
+    ensures { λ r. ⌜ r
+        ≡ (eqb (getD (now («parity_marks» .entry)) (numberOf rows which) 0) 4
+        || allZero (differenceOf (now («row_lacks» .entry)) (now («column_lacks» .entry)) which)) ⌝ }
+{
+    if !tracked::is_usable(parity_marks, rows, which) {
+        return true;
+    }
+    is_zero(tracked::difference(row_lacks, column_lacks, which))
+}
+
+// Whether all groups agree with their parity lines, unusable ones left out.
+pub fn all_agree(
+    rows: usize,
+    columns: usize,
+    row_lacks: &[u8],
+    column_lacks: &[u8],
+    parity_marks: &[u8],
+) -> bool
+    requires sides { ⌜ (rows ≤ 512) × (columns ≤ 512) ⌝ }
+    requires room { ⌜ (length (now «row_lacks») ≡ rows * 70) × (length (now «column_lacks») ≡ columns * 70)
+        × (length (now «parity_marks») ≡ 1024) ⌝ }
+    ensures { λ r. ⌜ r
+        ≡ every (agreesAt (now («row_lacks» .entry) ++ now («column_lacks» .entry)) (now («parity_marks» .entry)))
+        (upFrom 0 (rows + columns)) ⌝ }
 {
     let groups = rows + columns;
     let mut k = 0;
     while k < groups {
-        if !is_zero(tracked::difference(lacks, rows, nth(rows, k))) {
+        if !agrees(rows, row_lacks, column_lacks, parity_marks, nth(rows, k)) {
             return false;
         }
         k += 1;

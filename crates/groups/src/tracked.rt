@@ -1,13 +1,14 @@
-// The line and the number that stand beside each group: its difference, that is the exclusive or of its parity line and its lines as they
-// stand, and how many of its lines are faulty. A row's are reached by its RowIndex, a column's by its ColumnIndex. No other body knows
-// where they are kept, though contracts say it: all differences in one buffer and all counts in another, the rows' first, the columns'
-// from number `rows` on.
+// What stands beside each group: its difference, that is the exclusive or of its parity line and its lines as they stand; how many of its
+// lines are faulty; and the mark with which its parity line was read. A row's are reached by its RowIndex, a column's by its ColumnIndex.
+// The differences stand in the two lent tables, each direction's in its own, where `lines` reaches them; of the counts and marks no other
+// body knows where they are kept, though contracts say it: the rows' first, the columns' from number `rows` on.
 // Public for `mending`, `first_reading` and `repair`, which have tested or made what these ask; not entry points.
 ghost use mathlib.Core.Path.{_≡_};
+ghost use mathlib.Core.Bool.{not};
 ghost use Prim.Native.Nat.{_+_, _-_, _≤_, _<_};
+ghost use lib.Dec.{eqb};
 ghost use lib.ListN.{length, getD, set};
-ghost use Rattle.rectangle.specs.Store.{bytesAt, putBytes};
-ghost use Rattle.groups.specs.Lent.{numberOf, added};
+ghost use Rattle.groups.specs.Lent.{numberOf, differenceOf, Reached};
 use rectangle::lines;
 use rectangle::lines::ColumnIndex;
 use rectangle::lines::RowIndex;
@@ -18,7 +19,7 @@ pub enum Which {
     Column(ColumnIndex),
 }
 
-// Where a group stands.
+// Where a group's count and mark stand.
 fn number(rows: usize, which: Which) -> usize
     requires { ⌜ numberOf rows which < 1024 ⌝ }
     ensures { λ r. ⌜ r ≡ numberOf rows which ⌝ }
@@ -29,12 +30,15 @@ fn number(rows: usize, which: Which) -> usize
     }
 }
 
-// A group's difference.
-pub fn difference(lacks: &[u8], rows: usize, which: Which) -> [u8; 70]
-    requires { ⌜ (numberOf rows which < 1024) × (length (now lacks) ≡ 71680) ⌝ }
-    ensures { λ r. ⌜ r ≡ bytesAt (now (lacks .entry)) (numberOf rows which) ⌝ }
+// A group's difference, out of its own table.
+pub fn difference(row_lacks: &[u8], column_lacks: &[u8], which: Which) -> [u8; 70]
+    requires { ⌜ Reached (now «row_lacks») (now «column_lacks») which ⌝ }
+    ensures { λ r. ⌜ r ≡ differenceOf (now («row_lacks» .entry)) (now («column_lacks» .entry)) which ⌝ }
 {
-    lines::line_at(lacks, number(rows, which))
+    match which {
+        Which::Row(row) => lines::row_parity(row_lacks, row),
+        Which::Column(column) => lines::column_parity(column_lacks, column),
+    }
 }
 
 // How many of a group's lines are faulty.
@@ -46,40 +50,31 @@ pub fn count(faulty: &[u16], rows: usize, which: Which) -> u16
     faulty[k]
 }
 
-// A row's difference, written.
-pub fn put_row_difference(lacks: &mut [u8], row: RowIndex, line: [u8; 70])
-    requires { ⌜ (row .0 < 1024) × (length (now lacks) ≡ 71680) ⌝ }
-    ensures { λ _. ⌜ now (lacks .exit) ≡ putBytes (now (lacks .entry)) (row .0) line ⌝ }
+// Whether a group is usable: its parity line is not faulty.
+pub fn is_usable(parity_marks: &[u8], rows: usize, which: Which) -> bool
+    requires { ⌜ (numberOf rows which < 1024) × (length (now «parity_marks») ≡ 1024) ⌝ }
+    ensures { λ r. ⌜ r ≡ not (eqb (getD (now («parity_marks» .entry)) (numberOf rows which) 0) 4) ⌝ }
+{
+    let k = number(rows, which);
+    parity_marks[k] != 4
+}
+
+// The mark of a row's parity line, written.
+pub fn put_row_mark(parity_marks: &mut [u8], row: RowIndex, mark: u8)
+    requires { ⌜ (row .0 < 1024) × (length (now «parity_marks») ≡ 1024) ⌝ }
+    ensures { λ _. ⌜ now («parity_marks» .exit) ≡ set (now («parity_marks» .entry)) (row .0) mark ⌝ }
 {
     let r = row.0;
-    lines::put_line(lacks, r, line);
+    parity_marks[r] = mark;
 }
 
-// A column's difference, written.
-pub fn put_column_difference(lacks: &mut [u8], rows: usize, column: ColumnIndex, line: [u8; 70])
-    requires { ⌜ (rows + column .0 < 1024) × (length (now lacks) ≡ 71680) ⌝ }
-    ensures { λ _. ⌜ now (lacks .exit) ≡ putBytes (now (lacks .entry)) (rows + column .0) line ⌝ }
+// The mark of a column's parity line, written.
+pub fn put_column_mark(parity_marks: &mut [u8], rows: usize, column: ColumnIndex, mark: u8)
+    requires { ⌜ (rows + column .0 < 1024) × (length (now «parity_marks») ≡ 1024) ⌝ }
+    ensures { λ _. ⌜ now («parity_marks» .exit) ≡ set (now («parity_marks» .entry)) (rows + column .0) mark ⌝ }
 {
-    let c = column.0;
-    lines::put_line(lacks, rows + c, line);
-}
-
-// A line, or the change of one, added to a row's difference. Both have spare bits 0, so that whole bytes are added.
-pub fn add_to_row(lacks: &mut [u8], row: RowIndex, line: [u8; 70])
-    requires { ⌜ (row .0 < 1024) × (length (now lacks) ≡ 71680) ⌝ }
-    ensures { λ _. ⌜ now (lacks .exit) ≡ added (now (lacks .entry)) (row .0) line ⌝ }
-{
-    let r = row.0;
-    lines::add_line(lacks, r, line);
-}
-
-// The same, added to a column's difference.
-pub fn add_to_column(lacks: &mut [u8], rows: usize, column: ColumnIndex, line: [u8; 70])
-    requires { ⌜ (rows + column .0 < 1024) × (length (now lacks) ≡ 71680) ⌝ }
-    ensures { λ _. ⌜ now (lacks .exit) ≡ added (now (lacks .entry)) (rows + column .0) line ⌝ }
-{
-    let c = column.0;
-    lines::add_line(lacks, rows + c, line);
+    let k = rows + column.0;
+    parity_marks[k] = mark;
 }
 
 // How many of a row's lines are faulty, written.

@@ -183,26 +183,20 @@ module _ (rows columns : ℕ) (out marks lacks faulty : List ℕ) (room : Room r
         Holding-of : List ℕ → List ℕ → Type 0
         Holding-of a b = Holding a b t
 
-        few-rows : R < 1024
-        few-rows = omega (arith, row-listed, room .rect .rowsHigh)
-
-        few : C < 1024
-        few = omega (arith, column-listed, room .rect .rowsHigh, room .rect .columnsHigh)
-
         row-in : R < rows + columns
         row-in = omega (arith, row-listed)
 
         column-in : C < rows + columns
         column-in = omega (arith, column-listed)
 
-        mid : length lacks₁ ≡ 71680
-        mid = put-length lacks (room .lackBytes) R few-rows _ _ (sum-is R row-in)
+        mid : length lacks₁ ≡ (rows + columns) * 70
+        mid = put-length (rows + columns) lacks (room .lackBytes) R row-in _ _ (sum-is R row-in)
 
         -- the column's difference is as it was when the row's has changed
         second-is : xorBytes (bytesAt lacks₁ C) change ≡ lineOf (places (bytesAt lacks C) ⊕ delta)
         second-is =
             ap (λ (l : List ℕ). xorBytes l change)
-            (put-other lacks (room .lackBytes) R few-rows _ _ (sum-is R row-in) C few (λ (x : C ≡ R). apart (sym x)))
+            (put-other (rows + columns) lacks (room .lackBytes) R row-in _ _ (sum-is R row-in) C column-in (λ (x : C ≡ R). apart (sym x)))
             ∙ sum-is C column-in
 
         count-mid : length faulty₁ ≡ 1024
@@ -212,16 +206,13 @@ module _ (rows columns : ℕ) (out marks lacks faulty : List ℕ) (room : Room r
             → Beside (groupOf rows columns parity k) t (bytesAt (added lacks₁ C change) k) (getD (set faulty₁ C (getD faulty₁ C 0 - 1)) k 0)
         each k h = go (ℕ-discrete k C) (ℕ-discrete k R)
           where
-            small : k < 1024
-            small = omega (arith, room .rect .rowsHigh, room .rect .columnsHigh)
-
             go : Dec (k ≡ C) → Dec (k ≡ R)
                 → Beside (groupOf rows columns parity k) t (bytesAt (added lacks₁ C change) k) (getD (set faulty₁ C (getD faulty₁ C 0 - 1)) k 0)
             go (yes p) q =
                 subst
                 (λ (j : ℕ). Beside (groupOf rows columns parity j) t (bytesAt (added lacks₁ C change) j) (getD (set faulty₁ C (getD faulty₁ C 0 - 1)) j 0))
                 (sym p)
-                (touched C column-in (home-column rows columns some-columns n inside) _ _ (put-same lacks₁ mid C few _ _ second-is)
+                (touched C column-in (home-column rows columns some-columns n inside) _ _ (put-same (rows + columns) lacks₁ mid C column-in _ _ second-is)
                 (getD-set-same faulty₁ C (getD faulty₁ C 0 - 1) 0 (omega (arith, count-mid))
                 ∙ ap (λ (x : ℕ). x - 1) (getD-set-other faulty R C (getD faulty R 0 - 1) 0 (λ (x : C ≡ R). apart (sym x)))))
             go (no d) (yes q) =
@@ -229,15 +220,15 @@ module _ (rows columns : ℕ) (out marks lacks faulty : List ℕ) (room : Room r
                 (λ (j : ℕ). Beside (groupOf rows columns parity j) t (bytesAt (added lacks₁ C change) j) (getD (set faulty₁ C (getD faulty₁ C 0 - 1)) j 0))
                 (sym q)
                 (touched R row-in (home-row rows columns some-columns n inside) _ _
-                (put-other lacks₁ mid C few _ _ second-is R few-rows apart ∙ put-same lacks (room .lackBytes) R few-rows _ _ (sum-is R row-in))
+                (put-other (rows + columns) lacks₁ mid C column-in _ _ second-is R row-in apart ∙ put-same (rows + columns) lacks (room .lackBytes) R row-in _ _ (sum-is R row-in))
                 (getD-set-other faulty₁ C R (getD faulty₁ C 0 - 1) 0 apart
                 ∙ getD-set-same faulty R (getD faulty R 0 - 1) 0 (omega (arith, room .counts))))
             go (no d) (no q) =
                 beside-elsewhere s t n others (groupOf rows columns parity k) _ _ absent
                 (subst (λ (l : List ℕ). Beside (groupOf rows columns parity k) s l (getD (set faulty₁ C (getD faulty₁ C 0 - 1)) k 0))
                 (sym
-                (put-other lacks₁ mid C few _ _ second-is k small d
-                ∙ put-other lacks (room .lackBytes) R few-rows _ _ (sum-is R row-in) k small q))
+                (put-other (rows + columns) lacks₁ mid C column-in _ _ second-is k h d
+                ∙ put-other (rows + columns) lacks (room .lackBytes) R row-in _ _ (sum-is R row-in) k h q))
                 (subst (λ (a : ℕ). Beside (groupOf rows columns parity k) s (bytesAt lacks k) a)
                 (sym (getD-set-other faulty₁ C k (getD faulty₁ C 0 - 1) 0 d ∙ getD-set-other faulty R k (getD faulty R 0 - 1) 0 q))
                 (c .beside k h)))

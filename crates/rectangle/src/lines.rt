@@ -99,13 +99,23 @@ pub fn read_into(
 }
 
 // A line put into line k of some sums by exclusive or, byte by byte.
-pub fn add_line(sums: &mut [u8], k: usize, line: [u8; 70])
+fn add_line(sums: &mut [u8], k: usize, line: [u8; 70])
     requires { ⌜ suc k * 70 ≤ length (now sums) ⌝ }
     ensures { λ _. ⌜ now (sums .exit) ≡ putBytes (now (sums .entry)) k (xorBytes (bytesAt (now (sums .entry)) k) line) ⌝ }
 {
     let before = line_at(sums, k);
     let after = place::xor_bytes(before, line);
     put_line(sums, k, after);
+}
+
+// A line put into a row's sum by exclusive or, byte by byte: whole bytes are added, where the spare bits of both are 0.
+pub fn add_to_row_sum(row_sums: &mut [u8], row: RowIndex, line: [u8; 70])
+    requires { ⌜ suc (row .0) * 70 ≤ length (now «row_sums») ⌝ }
+    ensures { λ _. ⌜ now («row_sums» .exit)
+        ≡ putBytes (now («row_sums» .entry)) (row .0) (xorBytes (bytesAt (now («row_sums» .entry)) (row .0)) line) ⌝ }
+{
+    let r = row.0;
+    add_line(row_sums, r, line);
 }
 
 // A line put into a column's sum by exclusive or, byte by byte.
@@ -128,7 +138,7 @@ pub fn put_row_parity(row_table: &mut [u8], row: RowIndex, line: [u8; 70])
 }
 
 // The parity line of a column, written.
-fn put_column_parity(column_table: &mut [u8], column: ColumnIndex, line: [u8; 70])
+pub fn put_column_parity(column_table: &mut [u8], column: ColumnIndex, line: [u8; 70])
     requires { ⌜ suc (column .0) * 70 ≤ length (now «column_table») ⌝ }
     ensures { λ _. ⌜ now («column_table» .exit) ≡ putBytes (now («column_table» .entry)) (column .0) line ⌝ }
 {

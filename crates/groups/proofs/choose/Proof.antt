@@ -27,14 +27,16 @@ returns c =
     let start = c .before .before .before .before in
     let given = c .before .before .which .given .1 in
     let pre = start .pre in
-    (sym given, row-numbered _ _ (pre .0) (pre .1) (pre .2) (pre .3) _ (subst (Within (start .args .rows) (start .args .columns)) given (pre .4)))
+    let inside = subst (Within (start .args .rows) (start .args .columns)) given (pre .4) in
+    (sym given, record { within = inside; numbered = row-numbered _ _ (pre .0) (pre .1) (pre .2) (pre .3) _ inside })
 
 returns-2 : tie.Need-returns-2
 returns-2 c =
     let start = c .before .before .before in
     let given = c .before .which2 .given .1 in
     let pre = start .pre in
-    (sym given, column-numbered _ _ (pre .0) (pre .1) (pre .2) (pre .3) _ (subst (Within (start .args .rows) (start .args .columns)) given (pre .4)))
+    let inside = subst (Within (start .args .rows) (start .args .columns)) given (pre .4) in
+    (sym given, record { within = inside; numbered = column-numbered _ _ (pre .0) (pre .1) (pre .2) (pre .3) _ inside })
 
 pub choose-spec : {M : Type 1} → statement M
 choose-spec =

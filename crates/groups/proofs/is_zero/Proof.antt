@@ -5,7 +5,7 @@ use borrow.Author.Tests.{eq-eqb, ne-eqb}
 use lib.Dec.{eqb}
 use lib.ListN.{getD}
 use Rattle.groups.specs.Lent.{allZero}
-use Rattle.rectangle.proofs.First.{Passed, passed-none, passed-next, not-every, every-one}
+use Rattle.rectangle.proofs.InTurn.{Passed, passed-none, passed-next, not-every, every-one}
 use Rattle.groups.proofs.is_zero.Statement.{statement}
 use Rattle.groups.proofs.is_zero.Tie as tie
 
