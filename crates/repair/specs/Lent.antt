@@ -1,38 +1,69 @@
--- What the passes ask of lent buffers, and what they make of the store in them.
+-- What the steps of repair ask of lent buffers, and what they make of the store and the tables in them.
 use mathlib.Core.Path.{_≡_}
-use mathlib.Core.Bool.{cond}
+use mathlib.Core.Bool.{true, cond}
 use mathlib.Core.List.{List, map}
-use Prim.Native.Nat.{ℕ, _+_, _-_, _*_}
-use lib.Dec.{ltb}
-use Rattle.gf2.specs.Word.{Word}
+use Prim.Native.Nat.{ℕ, _+_, _-_, _*_, _<_}
+use lib.Dec.{eqb, ltb}
+use lib.ListN.{getD}
+use Rattle.gf2.specs.Word.{Word, _⊕_, zeros}
+use Rattle.linecode.specs.Places.{linePlaces, lineOf}
 use Rattle.linecode.specs.Code.{upFrom}
 use Rattle.scheme.specs.Layer.{readLine}
-use Rattle.scheme.specs.Visit.{Group, State}
-use Rattle.scheme.specs.Repair.{readAll, passesFrom, linesOf, marksOf, answer}
-use Rattle.rectangle.specs.Store.{lineLayer, placesAt, linesIn, bufferOf}
-use Rattle.groups.specs.Lent.{groupOf, Carried, Makes}
+use Rattle.scheme.specs.Visit.{Group, State, lineAt, sum}
+use Rattle.scheme.specs.Repair.{readAll, passesFrom, answer}
+use Rattle.scheme.specs.Parity.{readParity, unusable, noLines}
+use Rattle.rectangle.specs.Store.{lineLayer, bytesAt, linesIn, rowGroup, columnGroup}
+use Rattle.groups.specs.Lent.{Holding, membersOf, groupOf, Carried, Makes}
 
--- the parity line of group k: from the row table, then from the column table
-unfoldable pub parityOf : ℕ → List ℕ → List ℕ → ℕ → Word
-parityOf rows rowTable columnTable k = cond (ltb k rows) (placesAt rowTable k) (placesAt columnTable (k - rows))
+-- ---- the parity lines, for groups of any direction
+-- what a group's difference starts from: its parity line as read, or zeros where that is faulty
+unfoldable pub startOf : Group → Word
+startOf g = cond (unusable lineLayer g) (zeros linePlaces) (readParity lineLayer g .line)
+
+-- the parity lines of some groups are read, the first of them as group b in visiting order: their differences start in their own table,
+-- and their marks are kept; those of the groups before stay
+pub record Started (g : ℕ → Group) (b total : ℕ) (lacks parityMarks₀ parityMarks : List ℕ) : Type 0 where
+  pub starts : (k : ℕ) → k < total → bytesAt lacks k ≡ lineOf (startOf (g k))
+  pub marked : (k : ℕ) → k < total → getD parityMarks (b + k) 0 ≡ readParity lineLayer (g k) .mark
+  pub before : (k : ℕ) → k < b → getD parityMarks k 0 ≡ getD parityMarks₀ k 0
+
+-- the difference of each unusable group is the sum of its lines
+abbrev pub Fresh : (ℕ → Group) → ℕ → List ℕ → State → Type 0
+Fresh g total lacks s =
+    (k : ℕ) → k < total → unusable lineLayer (g k) ≡ true → bytesAt lacks k ≡ lineOf (sum (lineAt s) (g k .members))
+
+-- ---- all groups
+-- group k as it stands in the tables, and what its difference starts from
+unfoldable pub foundGroup : ℕ → ℕ → List ℕ → List ℕ → ℕ → Group
+foundGroup rows columns rowTable columnTable k =
+    cond (ltb k rows) (rowGroup columns rowTable k) (columnGroup rows columns columnTable (k - rows))
+
+abbrev pub startsFrom : ℕ → ℕ → List ℕ → List ℕ → ℕ → Word
+startsFrom rows columns rowTable columnTable k = startOf (foundGroup rows columns rowTable columnTable k)
+
+-- group k as it is visited: without lines where its parity line is marked faulty
+unfoldable pub usedGroup : ℕ → ℕ → List ℕ → (ℕ → Word) → ℕ → Group
+usedGroup rows columns parityMarks parity k = cond (eqb (getD parityMarks k 0) 4) noLines (groupOf rows columns parity k)
 
 -- all groups, in visiting order
-unfoldable pub allGroups : ℕ → ℕ → (ℕ → Word) → List Group
-allGroups rows columns parity = map (groupOf rows columns parity) (upFrom 0 (rows + columns))
+unfoldable pub allGroups : ℕ → ℕ → List ℕ → (ℕ → Word) → List Group
+allGroups rows columns parityMarks parity = map (usedGroup rows columns parityMarks parity) (upFrom 0 (rows + columns))
 
 -- whatever store the buffers hold before, they hold what the passes make of it after, and n is the number of passes
-pub record RanPasses (rows columns : ℕ) (out marks lacks faulty out′ marks′ lacks′ faulty′ : List ℕ) (n : ℕ) : Type 0 where
+pub record RanPasses (rows columns : ℕ) (parityMarks out marks lacks faulty out′ marks′ lacks′ faulty′ : List ℕ) (n : ℕ) : Type 0 where
   pub cells : Makes rows columns out marks lacks faulty out′ marks′ lacks′ faulty′
-      (λ parity s. passesFrom (readLine lineLayer) (allGroups rows columns parity) s .cells)
+      (λ parity s. passesFrom (readLine lineLayer) (allGroups rows columns parityMarks parity) s .cells)
   pub passes : (parity : ℕ → Word) (s : State) → Carried rows columns parity out marks lacks faulty s
-      → n ≡ passesFrom (readLine lineLayer) (allGroups rows columns parity) s .passes
+      → n ≡ passesFrom (readLine lineLayer) (allGroups rows columns parityMarks parity) s .passes
 
--- the lines found, read and passed over, stand in the buffers with their marks; the answer and the number of passes are theirs
-pub record Finished (rows columns : ℕ) (parity : ℕ → Word) (found out marks : List ℕ) (answered passed : ℕ) : Type 0 where
+-- the lines found, read and passed over, stand in the buffers with their marks; the answer and the number of passes are theirs, and so
+-- are the differences
+pub record Finished (rows columns : ℕ) (parityMarks : List ℕ) (parity : ℕ → Word) (found out marks lacks : List ℕ) (answered passed : ℕ) : Type 0 where
   pub cells : State
-  pub ran : passesFrom (readLine lineLayer) (allGroups rows columns parity)
+  pub ran : passesFrom (readLine lineLayer) (allGroups rows columns parityMarks parity)
       (readAll (readLine lineLayer) 0 (linesIn (rows * columns) found))
       ≡ record { cells = cells; passes = passed }
-  pub lines : out ≡ bufferOf (linesOf cells)
-  pub marked : marks ≡ marksOf cells
-  pub answers : answered ≡ answer (allGroups rows columns parity) cells
+  pub held : Holding out marks cells
+  pub answers : answered ≡ answer (allGroups rows columns parityMarks parity) cells
+  pub differences : (k : ℕ) → k < rows + columns
+      → bytesAt lacks k ≡ lineOf (sum (lineAt cells) (membersOf rows columns k) ⊕ parity k)

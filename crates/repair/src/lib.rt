@@ -3,29 +3,28 @@ mod parity;
 mod passes;
 
 ghost use mathlib.Core.Path.{_≡_};
-ghost use mathlib.Core.List.{[]};
+ghost use mathlib.Core.List.{[], _++_};
 ghost use Prim.Native.Nat.{ℕ, _*_, _≤_};
 ghost use lib.ListN.{length, replicate};
 ghost use Rattle.gf2.specs.Word.{Word};
 ghost use Rattle.scheme.specs.Visit.{State};
 ghost use Rattle.scheme.specs.Repair.{answer};
 ghost use Rattle.rectangle.specs.Refusals.{repairRefusal};
-ghost use Rattle.rectangle.specs.Repair.{StoreRepaired, repairStore};
+ghost use Rattle.rectangle.specs.Store.{lineLayer};
+ghost use Rattle.rectangle.specs.Repair.{StoreRepaired, repairedBy, handedOver, repairStore};
 ghost use Rattle.line_table.specs.Table.{lineTable};
 ghost use Rattle.groups.specs.Lent.{Rectangular, Tracked};
 ghost use Rattle.repair.specs.Lent.{allGroups, Finished};
 use rectangle::sizes;
 
-// What repair answers, its passes, and the number of the row or column that comes with 13 or 14, otherwise 0.
+// What repair answers, and its passes.
 pub struct Repaired {
     pub answer: u32,
     pub passes: usize,
-    pub number: usize,
 }
 
-// The first refusal that fits, or 0: sizes and lengths before the parity lines, which are read.
+// The first refusal that fits, or 0.
 fn refusal(
-    table: &[u64; 4096],
     rows: usize,
     columns: usize,
     lines: &[u8],
@@ -33,11 +32,12 @@ fn refusal(
     column_table: &[u8],
     out: &[u8],
     marks: &[u8],
+    row_out: &[u8],
+    column_out: &[u8],
 ) -> u32
-    requires { ⌜ now table ≡ lineTable ⌝ }
     ensures { λ r. ⌜ r
         ≡ repairRefusal rows columns (now (lines .entry)) (now («row_table» .entry)) (now («column_table» .entry))
-        (now (out .entry)) (now (marks .entry)) ⌝ }
+        (now (out .entry)) (now (marks .entry)) (now («row_out» .entry)) (now («column_out» .entry)) ⌝ }
 {
     let refused = sizes::refusal(
         rows,
@@ -49,26 +49,41 @@ fn refusal(
     if refused != 0 {
         return refused;
     }
+    if row_out.len() != rows * 70 {
+        return 6;
+    }
+    if column_out.len() != columns * 70 {
+        return 6;
+    }
     if out.len() != rows * columns * 70 {
         return 7;
     }
     if marks.len() != rows * columns {
         return 7;
     }
-    parity::refusal(table, rows, columns, row_table, column_table)
+    0
 }
 
-// The answer after the last pass: 11 where faulty lines are left, 12 where some group's difference is not 0.
-fn answer_after(rows: usize, columns: usize, lacks: &[u8], faulty: &[u16]) -> u32
-    requires { ⌜ (rows ≤ 512) × (columns ≤ 512) × (length (now lacks) ≡ 71680) × (length (now faulty) ≡ 1024) ⌝ }
+// The answer after the last pass: 11 where faulty lines are left, 12 where some usable group's difference is not 0.
+fn answer_after(
+    rows: usize,
+    columns: usize,
+    row_lacks: &[u8],
+    column_lacks: &[u8],
+    faulty: &[u16],
+    parity_marks: &[u8],
+) -> u32
+    requires sides { ⌜ (rows ≤ 512) × (columns ≤ 512) ⌝ }
+    requires room { ⌜ (length (now «row_lacks») ≡ rows * 70) × (length (now «column_lacks») ≡ columns * 70)
+        × (length (now faulty) ≡ 1024) × (length (now «parity_marks») ≡ 1024) ⌝ }
     ensures { λ r. ⌜ ((parity : ℕ → Word) (s : State) → length s ≡ rows * columns
-        → Tracked rows columns parity (now (lacks .entry)) (now (faulty .entry)) s
-        → r ≡ answer (allGroups rows columns parity) s) ⌝ }
+        → Tracked rows columns parity (now («row_lacks» .entry) ++ now («column_lacks» .entry)) (now (faulty .entry)) s
+        → r ≡ answer (allGroups rows columns (now («parity_marks» .entry)) parity) s) ⌝ }
 {
     if groups::count_faulty(rows, faulty) != 0 {
         return 11;
     }
-    if !groups::all_agree(rows, columns, lacks) {
+    if !groups::all_agree(rows, columns, row_lacks, column_lacks, parity_marks) {
         return 12;
     }
     0
@@ -80,30 +95,97 @@ fn steps(
     found: &[u8],
     out: &mut [u8],
     marks: &mut [u8],
-    lacks: &mut [u8],
+    row_lacks: &mut [u8],
+    column_lacks: &mut [u8],
+    parity_marks: &[u8],
     rows: usize,
     columns: usize,
 ) -> Repaired
     requires table { ⌜ now table ≡ lineTable ⌝ }
     requires room { ⌜ Rectangular rows columns (now out) (now marks) × (length (now found) ≡ rows * columns * 70)
-        × (length (now lacks) ≡ 71680) ⌝ }
-    requires some { ⌜ ((parity : (ℕ → Word)) × Tracked rows columns parity (now lacks) (replicate 1024 0) []) ⌝ }
-    ensures left { λ r. ⌜ ((parity : ℕ → Word) → Tracked rows columns parity (now (lacks .entry)) (replicate 1024 0) []
-        → Finished rows columns parity (now (found .entry)) (now (out .exit)) (now (marks .exit)) (r .answer) (r .passes)) ⌝ }
-    ensures none { λ r. ⌜ r .number ≡ 0 ⌝ }
+        × (length (now «row_lacks») ≡ rows * 70) × (length (now «column_lacks») ≡ columns * 70) × (length (now «parity_marks») ≡ 1024) ⌝ }
+    requires some { ⌜ ((parity : (ℕ → Word)) × Tracked rows columns parity (now «row_lacks» ++ now «column_lacks») (replicate 1024 0) []) ⌝ }
+    ensures { λ r. ⌜ ((parity : ℕ → Word)
+        → Tracked rows columns parity (now («row_lacks» .entry) ++ now («column_lacks» .entry)) (replicate 1024 0) []
+        → Finished rows columns (now («parity_marks» .entry)) parity (now (found .entry)) (now (out .exit)) (now (marks .exit))
+        (now («row_lacks» .exit) ++ now («column_lacks» .exit)) (r .answer) (r .passes)) ⌝ }
 {
     let mut faulty = [0u16; 1024];
-    first_reading::read_all(table, found, out, marks, lacks, &mut faulty, rows, columns);
-    let passes = passes::run_passes(table, out, marks, lacks, &mut faulty, rows, columns);
-    let answer = answer_after(rows, columns, lacks, &faulty);
-    Repaired {
-        answer,
-        passes,
-        number: 0,
-    }
+    first_reading::read_all(
+        table,
+        found,
+        out,
+        marks,
+        row_lacks,
+        column_lacks,
+        &mut faulty,
+        rows,
+        columns,
+    );
+    let passes = passes::run_passes(
+        table,
+        out,
+        marks,
+        row_lacks,
+        column_lacks,
+        &mut faulty,
+        parity_marks,
+        rows,
+        columns,
+    );
+    let answer = answer_after(rows, columns, row_lacks, column_lacks, &faulty, parity_marks);
+    Repaired { answer, passes }
 }
 
-// Repair: lines and tables are read, the line buffer `out` and the mark buffer are written.
+// Repair of what is not refused: the parity lines are read, the steps made, and both tables handed over.
+fn repair_fitting(
+    rows: usize,
+    columns: usize,
+    lines: &[u8],
+    row_table: &[u8],
+    column_table: &[u8],
+    out: &mut [u8],
+    marks: &mut [u8],
+    row_out: &mut [u8],
+    column_out: &mut [u8],
+) -> Repaired
+    requires { ⌜ repairRefusal rows columns (now lines) (now «row_table») (now «column_table»)
+        (now out) (now marks) (now «row_out») (now «column_out») ≡ 0 ⌝ }
+    ensures { λ r. ⌜ _≡_ {A = StoreRepaired}
+        (record {
+          answer = r .answer;
+          passes = r .passes;
+          lines = now (out .exit);
+          marks = now (marks .exit);
+          rowTable = now («row_out» .exit);
+          columnTable = now («column_out» .exit);
+        })
+        (handedOver lineLayer rows columns (now («row_table» .entry)) (now («column_table» .entry))
+        (repairedBy lineLayer rows columns (now (lines .entry)) (now («row_table» .entry)) (now («column_table» .entry)))) ⌝ }
+{
+    let table = line_table::lent();
+    let mut parity_marks = [0u8; 1024];
+    parity::read_rows(&table, rows, row_table, row_out, &mut parity_marks);
+    parity::read_columns(&table, rows, columns, column_table, column_out, &mut parity_marks);
+    let repaired = steps(
+        &table,
+        lines,
+        out,
+        marks,
+        row_out,
+        column_out,
+        &parity_marks,
+        rows,
+        columns,
+    );
+    let whole = repaired.answer != 11;
+    parity::hand_over_rows(&table, rows, row_table, row_out, whole);
+    parity::hand_over_columns(&table, columns, column_table, column_out, whole);
+    repaired
+}
+
+// Repair: lines and tables are read; the line buffer `out`, the mark buffer and both tables are written. While it runs, the tables written
+// hold the differences of their groups.
 pub fn repair(
     rows: usize,
     columns: usize,
@@ -112,15 +194,22 @@ pub fn repair(
     column_table: &[u8],
     out: &mut [u8],
     marks: &mut [u8],
+    row_out: &mut [u8],
+    column_out: &mut [u8],
 ) -> Repaired
     ensures { λ r. ⌜ _≡_ {A = StoreRepaired}
-        (record { answer = r .answer; passes = r .passes; number = r .number; lines = now (out .exit); marks = now (marks .exit) })
+        (record {
+          answer = r .answer;
+          passes = r .passes;
+          lines = now (out .exit);
+          marks = now (marks .exit);
+          rowTable = now («row_out» .exit);
+          columnTable = now («column_out» .exit);
+        })
         (repairStore rows columns (now (lines .entry)) (now («row_table» .entry)) (now («column_table» .entry))
-        (now (out .entry)) (now (marks .entry))) ⌝ }
+        (now (out .entry)) (now (marks .entry)) (now («row_out» .entry)) (now («column_out» .entry))) ⌝ }
 {
-    let table = line_table::lent();
     let answer = refusal(
-        &table,
         rows,
         columns,
         lines,
@@ -128,17 +217,21 @@ pub fn repair(
         column_table,
         out,
         marks,
+        row_out,
+        column_out,
     );
     if answer != 0 {
-        let number = parity::number_with(answer, &table, rows, columns, row_table, column_table);
-        return Repaired {
-            answer,
-            passes: 0,
-            number,
-        };
+        return Repaired { answer, passes: 0 };
     }
-    let mut lacks = [0u8; 71680];
-    parity::start_rows(rows, row_table, &mut lacks);
-    parity::start_columns(rows, columns, column_table, &mut lacks);
-    steps(&table, lines, out, marks, &mut lacks, rows, columns)
+    repair_fitting(
+        rows,
+        columns,
+        lines,
+        row_table,
+        column_table,
+        out,
+        marks,
+        row_out,
+        column_out,
+    )
 }

@@ -1,122 +1,141 @@
-// The parity lines: the first that is not a correct line, and what the differences start from.
+// The parity lines: read alone before the first reading of the lines, and handed over after the last pass. Request Q-3.
 // Public for the crate's other modules; the module is private, and what its functions ask, `repair::repair` has tested or made.
 ghost use mathlib.Core.Path.{_≡_};
-ghost use Prim.Native.Nat.{ℕ, _+_, _*_, _≤_, _<_};
-ghost use lib.ListN.{length};
-ghost use Rattle.linecode.specs.Places.{lineOf};
-ghost use Rattle.rectangle.specs.Store.{placesAt, bytesAt, rowGroups, columnGroups};
-ghost use Rattle.rectangle.specs.Refusals.{every, firstFailing, parityCorrect, parityRefusal};
-ghost use Rattle.rectangle.specs.Repair.{repairNumber};
+ghost use mathlib.Core.Bool.{cond, _&&_};
+ghost use Prim.Native.Nat.{ℕ, _*_, _≤_};
+ghost use lib.Dec.{eqb};
+ghost use lib.ListN.{length, replicate};
+ghost use Rattle.scheme.specs.Visit.{State};
+ghost use Rattle.scheme.specs.Repair.{faultyCount};
+ghost use Rattle.rectangle.specs.Store.{lineLayer, rowGroup, columnGroup, rowGroups, columnGroups};
+ghost use Rattle.rectangle.specs.Repair.{tableAfter};
 ghost use Rattle.line_table.specs.Table.{lineTable};
+ghost use Rattle.repair.specs.Lent.{Started, Fresh};
 use groups::tracked;
-use linecode::place;
+use linecode::alone::Reading;
 use rectangle::lines;
 use rectangle::lines::ColumnIndex;
 use rectangle::lines::RowIndex;
 
-// The first row whose parity line isn't a correct line, or the number of rows, whatever the number of columns.
-pub fn first_bad_row(table: &[u64; 4096], rows: usize, row_table: &[u8]) -> usize
+// What a group's difference starts from: its parity line as read, or zeros where that is faulty, so that in the end an unusable group's
+// difference is the sum of its lines.
+fn start_of(read: Reading) -> [u8; 70]
+    ensures { λ r. ⌜ r ≡ cond (eqb (read .mark) 4) (replicate 70 0) (read .line) ⌝ }
+{
+    if read.mark == 4 {
+        return [0u8; 70];
+    }
+    read.line
+}
+
+// Every row's parity line is read alone: its difference starts, and its mark is kept.
+pub fn read_rows(
+    table: &[u64; 4096],
+    rows: usize,
+    row_table: &[u8],
+    row_lacks: &mut [u8],
+    parity_marks: &mut [u8],
+)
     requires table { ⌜ now table ≡ lineTable ⌝ }
-    requires whole { ⌜ length (now «row_table») ≡ rows * 70 ⌝ }
-    ensures { λ r. ⌜ ((columns : ℕ) → r ≡ firstFailing parityCorrect (rowGroups rows columns (now («row_table» .entry)))) ⌝ }
+    requires whole { ⌜ (rows ≤ 512) × (length (now «row_table») ≡ rows * 70) × (length (now «row_lacks») ≡ rows * 70)
+        × (length (now «parity_marks») ≡ 1024) ⌝ }
+    ensures { λ _. ⌜ ((columns : ℕ)
+        → Started (rowGroup columns (now («row_table» .entry))) 0 rows (now («row_lacks» .exit))
+        (now («parity_marks» .entry)) (now («parity_marks» .exit))) ⌝ }
 {
     let mut r = 0;
     while r < rows {
-        if !reading::is_correct(table, lines::row_parity(row_table, RowIndex(r))) {
-            return r;
-        }
+        let row = RowIndex(r);
+        let read = reading::read(table, lines::row_parity(row_table, row));
+        tracked::put_row_mark(parity_marks, row, read.mark);
+        lines::put_row_parity(row_lacks, row, start_of(read));
         r += 1;
     }
-    r
 }
 
-// The first column whose parity line isn't a correct line, or the number of columns, whatever the number of rows.
-pub fn first_bad_column(table: &[u64; 4096], columns: usize, column_table: &[u8]) -> usize
+// Every column's parity line is read alone; the rows' marks stay.
+pub fn read_columns(
+    table: &[u64; 4096],
+    rows: usize,
+    columns: usize,
+    column_table: &[u8],
+    column_lacks: &mut [u8],
+    parity_marks: &mut [u8],
+)
     requires table { ⌜ now table ≡ lineTable ⌝ }
-    requires whole { ⌜ length (now «column_table») ≡ columns * 70 ⌝ }
-    ensures { λ r. ⌜ ((rows : ℕ) → r ≡ firstFailing parityCorrect (columnGroups rows columns (now («column_table» .entry)))) ⌝ }
+    requires whole { ⌜ (rows ≤ 512) × (columns ≤ 512) × (length (now «column_table») ≡ columns * 70)
+        × (length (now «column_lacks») ≡ columns * 70) × (length (now «parity_marks») ≡ 1024) ⌝ }
+    ensures { λ _. ⌜ Started (columnGroup rows columns (now («column_table» .entry))) rows columns (now («column_lacks» .exit))
+        (now («parity_marks» .entry)) (now («parity_marks» .exit)) ⌝ }
 {
     let mut c = 0;
     while c < columns {
-        if !reading::is_correct(table, lines::column_parity(column_table, ColumnIndex(c))) {
-            return c;
-        }
+        let column = ColumnIndex(c);
+        let read = reading::read(table, lines::column_parity(column_table, column));
+        tracked::put_column_mark(parity_marks, rows, column, read.mark);
+        lines::put_column_parity(column_lacks, column, start_of(read));
         c += 1;
     }
-    c
 }
 
-// 13 where some row's parity line isn't a correct line, then 14 where some column's isn't, or 0.
-pub fn refusal(
+// Whether a parity line with this mark is made afresh: it is faulty, and no line is left so.
+fn made_afresh(mark: u8, whole: bool) -> bool
+    ensures { λ r. ⌜ r ≡ (eqb mark 4 && whole) ⌝ }
+{
+    if mark == 4 {
+        return whole;
+    }
+    false
+}
+
+// The rows' parity lines are handed over: as read again, but for those made afresh, which are their groups' differences already.
+pub fn hand_over_rows(
     table: &[u64; 4096],
     rows: usize,
-    columns: usize,
     row_table: &[u8],
-    column_table: &[u8],
-) -> u32
+    row_lacks: &mut [u8],
+    whole: bool,
+)
     requires table { ⌜ now table ≡ lineTable ⌝ }
-    requires whole { ⌜ (length (now «row_table») ≡ rows * 70) × (length (now «column_table») ≡ columns * 70) ⌝ }
-    ensures { λ r. ⌜ r
-        ≡ parityRefusal (every parityCorrect (rowGroups rows columns (now («row_table» .entry))))
-        (every parityCorrect (columnGroups rows columns (now («column_table» .entry)))) 0 ⌝ }
-{
-    // Both are looked for, then answered in their order.
-    let row = first_bad_row(table, rows, row_table);
-    let column = first_bad_column(table, columns, column_table);
-    if row != rows {
-        return 13;
-    }
-    if column != columns {
-        return 14;
-    }
-    0
-}
-
-// The number that comes with an answer: the first bad row with 13, the first bad column with 14, otherwise 0. Only a refusal asks for it.
-pub fn number_with(
-    answer: u32,
-    table: &[u64; 4096],
-    rows: usize,
-    columns: usize,
-    row_table: &[u8],
-    column_table: &[u8],
-) -> usize
-    requires table { ⌜ now table ≡ lineTable ⌝ }
-    requires whole { ⌜ (6 < answer → (length (now «row_table») ≡ rows * 70) × (length (now «column_table») ≡ columns * 70)) ⌝ }
-    ensures { λ r. ⌜ r ≡ repairNumber answer rows columns (now («row_table» .entry)) (now («column_table» .entry)) ⌝ }
-{
-    if answer == 13 {
-        return first_bad_row(table, rows, row_table);
-    }
-    if answer == 14 {
-        return first_bad_column(table, columns, column_table);
-    }
-    0
-}
-
-// The rows' differences start as their parity lines.
-pub fn start_rows(rows: usize, row_table: &[u8], lacks: &mut [u8])
-    requires { ⌜ (rows ≤ 512) × (length (now «row_table») ≡ rows * 70) × (length (now lacks) ≡ 71680) ⌝ }
-    ensures { λ _. ⌜ ((k : ℕ) → k < rows → bytesAt (now (lacks .exit)) k ≡ lineOf (placesAt (now («row_table» .entry)) k)) ⌝ }
+    requires whole { ⌜ (rows ≤ 512) × (length (now «row_table») ≡ rows * 70) × (length (now «row_lacks») ≡ rows * 70) ⌝ }
+    ensures { λ _. ⌜ ((columns : ℕ) (s : State) → whole ≡ eqb (faultyCount s) 0
+        → Fresh (rowGroup columns (now («row_table» .entry))) rows (now («row_lacks» .entry)) s
+        → now («row_lacks» .exit) ≡ tableAfter lineLayer s (rowGroups rows columns (now («row_table» .entry)))) ⌝ }
 {
     let mut r = 0;
     while r < rows {
-        let parity = place::clear_spare(lines::row_parity(row_table, RowIndex(r)));
-        tracked::put_row_difference(lacks, RowIndex(r), parity);
+        let row = RowIndex(r);
+        let read = reading::read(table, lines::row_parity(row_table, row));
+        if !made_afresh(read.mark, whole) {
+            let parity = read.line;
+            lines::put_row_parity(row_lacks, row, parity);
+        }
         r += 1;
     }
 }
 
-// The columns' differences start as their parity lines; the rows' stay.
-pub fn start_columns(rows: usize, columns: usize, column_table: &[u8], lacks: &mut [u8])
-    requires { ⌜ (rows ≤ 512) × (columns ≤ 512) × (length (now «column_table») ≡ columns * 70) × (length (now lacks) ≡ 71680) ⌝ }
-    ensures { λ _. ⌜ ((k : ℕ) → k < rows → bytesAt (now (lacks .exit)) k ≡ bytesAt (now (lacks .entry)) k)
-        × ((k : ℕ) → k < columns → bytesAt (now (lacks .exit)) (rows + k) ≡ lineOf (placesAt (now («column_table» .entry)) k)) ⌝ }
+// And the columns'.
+pub fn hand_over_columns(
+    table: &[u64; 4096],
+    columns: usize,
+    column_table: &[u8],
+    column_lacks: &mut [u8],
+    whole: bool,
+)
+    requires table { ⌜ now table ≡ lineTable ⌝ }
+    requires whole { ⌜ (columns ≤ 512) × (length (now «column_table») ≡ columns * 70) × (length (now «column_lacks») ≡ columns * 70) ⌝ }
+    ensures { λ _. ⌜ ((rows : ℕ) (s : State) → whole ≡ eqb (faultyCount s) 0
+        → Fresh (columnGroup rows columns (now («column_table» .entry))) columns (now («column_lacks» .entry)) s
+        → now («column_lacks» .exit) ≡ tableAfter lineLayer s (columnGroups rows columns (now («column_table» .entry)))) ⌝ }
 {
     let mut c = 0;
     while c < columns {
-        let parity = place::clear_spare(lines::column_parity(column_table, ColumnIndex(c)));
-        tracked::put_column_difference(lacks, rows, ColumnIndex(c), parity);
+        let column = ColumnIndex(c);
+        let read = reading::read(table, lines::column_parity(column_table, column));
+        if !made_afresh(read.mark, whole) {
+            let parity = read.line;
+            lines::put_column_parity(column_lacks, column, parity);
+        }
         c += 1;
     }
 }
