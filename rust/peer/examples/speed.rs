@@ -37,6 +37,19 @@ fn flip_two(lines: &mut [u8], n: usize) {
 struct Buffers {
     out: Vec<u8>,
     marks: Vec<u8>,
+    row_table: Vec<u8>,
+    column_table: Vec<u8>,
+}
+
+impl Buffers {
+    fn repaired(&mut self) -> peer::Out<'_> {
+        peer::Out {
+            lines: &mut self.out,
+            marks: &mut self.marks,
+            row_table: &mut self.row_table,
+            column_table: &mut self.column_table,
+        }
+    }
 }
 
 fn report(name: &str, nanoseconds: f64, copy: f64) {
@@ -55,6 +68,8 @@ fn main() {
     let mut buffers = Buffers {
         out: vec![0; lines.len()],
         marks: vec![0; count],
+        row_table: row_table.clone(),
+        column_table: column_table.clone(),
     };
 
     // One line at a time over a thousand lines, which stay in the cache.
@@ -96,8 +111,7 @@ fn main() {
                 lines,
                 &row_table,
                 &column_table,
-                &mut buffers.out,
-                &mut buffers.marks,
+                buffers.repaired(),
             );
             assert_eq!(given.answer, 0);
             passes = given.passes;

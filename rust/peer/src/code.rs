@@ -248,11 +248,6 @@ fn with_own_hamming_bits(line: &Words) -> u64 {
     line[8] & u64::from(CRC_BITS) | own_hamming_bits(line) << 32
 }
 
-/// Whether a line is what writing its data gives.
-pub fn correct(line: &Words) -> bool {
-    remainder(line) == 0 && own_hamming_bits(line) == line[8] >> 32
-}
-
 /// Reads a line alone, in place; gives its mark.
 #[inline]
 pub fn read_alone(line: &mut Words) -> u8 {

@@ -1,20 +1,20 @@
 //! The caption store's line code and repair, as fast as safe Rust for any
 //! x86-64 makes them: the measure that the proved library is held against.
 //!
-//! The rules are document 01's, with requests of document 02. A line
+//! The rules are document 01's, with requests of document 02. A line
 //! is nine 64-bit words: eight of data, and one with the CRC in bits 0 to 30 and
 //! the Hamming bits from bit 32. The CRC goes by tables, sixteen bytes at a
 //! time; the Hamming bits by moving places to their positions, a word at a
-//! time, and folding. Repair reads every line once, keeps for each group what
-//! its lines lack of its parity line, and from then on looks only at groups in
-//! which something changed.
+//! time, and folding. Repair reads every parity line and every line once, keeps
+//! for each group what its lines lack of its parity line, and from then on looks
+//! only at groups in which something changed.
 
 mod code;
 mod rectangle;
 
 use code::Words;
 
-pub use rectangle::{Repair, make_tables, repair};
+pub use rectangle::{Out, Repair, make_tables, repair};
 
 const LINE_BYTES: usize = 70;
 const DATA_BYTES: usize = 64;
@@ -25,8 +25,6 @@ mod answer {
     pub const LINES: u32 = 5;
     pub const TABLE: u32 = 6;
     pub const BUFFER: u32 = 7;
-    pub const ROW_PARITY: u32 = 13;
-    pub const COLUMN_PARITY: u32 = 14;
     pub const FAULTY: u32 = 10;
     pub const LEFT: u32 = 11;
     pub const DIFFERS: u32 = 12;

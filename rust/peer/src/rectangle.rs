@@ -55,145 +55,126 @@ pub fn make_tables(
     answer::DONE
 }
 
-/// What repair gives, beside the lines and marks written out.
+/// The buffers that repair writes.
+pub struct Out<'a> {
+    /// The lines.
+    pub lines: &'a mut [u8],
+    /// A mark for each line.
+    pub marks: &'a mut [u8],
+    /// The parity lines of the rows.
+    pub row_table: &'a mut [u8],
+    /// The parity lines of the columns.
+    pub column_table: &'a mut [u8],
+}
+
+/// What repair gives, beside what it writes out.
 #[derive(Clone, Copy, Debug, PartialEq, Eq)]
 pub struct Repair {
     /// The answer.
     pub answer: u32,
     /// The passes made; 0 on refusals.
     pub passes: u64,
-    /// The first bad row with 13, the first bad column with 14, otherwise 0.
-    pub number: u64,
 }
 
-/// Repairs a rectangle: reads lines and tables, writes lines into `out` and
-/// one mark for each into `marks`.
+/// Repairs a rectangle: reads lines and tables, writes lines, marks and both
+/// tables into `out`.
 ///
-/// Refusals: 2, 5, 6 (either table), 7 (out or marks), 13 (the parity line of
-/// any row), 14 (that of any column). With 11 and 12 lines and marks are still
-/// written.
+/// Refusals: 2, 5, 6 (any table, read or written), 7 (lines or marks written).
+/// With 11 and 12 everything is still written.
 pub fn repair(
     rows: usize,
     columns: usize,
     lines: &[u8],
     row_table: &[u8],
     column_table: &[u8],
-    out: &mut [u8],
-    marks: &mut [u8],
+    out: Out,
 ) -> Repair {
-    let refused = |answer| Repair {
-        answer,
-        passes: 0,
-        number: 0,
-    };
+    let refused = |answer| Repair { answer, passes: 0 };
     if !sides_fit(rows, columns) {
         return refused(answer::SIDES);
     }
-    if lines.len() != rows * columns * LINE_BYTES {
+    let all_lines = rows * columns * LINE_BYTES;
+    if lines.len() != all_lines {
         return refused(answer::LINES);
     }
-    if row_table.len() != rows * LINE_BYTES || column_table.len() != columns * LINE_BYTES {
+    let tables = [rows * LINE_BYTES, columns * LINE_BYTES];
+    if [row_table.len(), column_table.len()] != tables
+        || [out.row_table.len(), out.column_table.len()] != tables
+    {
         return refused(answer::TABLE);
     }
-    if out.len() != rows * columns * LINE_BYTES || marks.len() != rows * columns {
+    if out.lines.len() != all_lines || out.marks.len() != rows * columns {
         return refused(answer::BUFFER);
     }
-    let groups = |table: &[u8]| -> Vec<Group> {
-        let lines = lines_of(table).iter();
-        lines.map(|line| Group::new(code::load(line))).collect()
-    };
-    let mut row_groups = groups(row_table);
-    let mut column_groups = groups(column_table);
-    let all_groups = || row_groups.iter().chain(&column_groups);
-    if !all_groups().all(Group::parity_is_correct) {
-        return bad_parity(&row_groups, &column_groups);
-    }
 
-    let out = lines_of_mut(out);
-    let mut faulty = 0;
-    for (row, group) in row_groups.iter_mut().enumerate() {
-        let here = row * columns..(row + 1) * columns;
-        let found = &lines_of(lines)[here.clone()];
-        let out = &mut out[here.clone()];
-        let marks = &mut marks[here];
-        let mut lacks = group.lacks;
-        for (((found, out), mark), column) in
-            found.iter().zip(out).zip(marks).zip(&mut column_groups)
-        {
-            let mut words = code::load(found);
-            *mark = code::read_alone(&mut words);
-            code::add(&mut lacks, &words);
-            code::add(&mut column.lacks, &words);
-            code::store(&words, out);
-            if *mark == mark::FAULTY {
-                group.faulty += 1;
-                column.faulty += 1;
-                faulty += 1;
-            }
-        }
-        group.lacks = lacks;
-    }
-
+    let of_rows = lines_of_mut(out.row_table);
+    let of_columns = lines_of_mut(out.column_table);
     let mut rectangle = Rectangle {
         columns,
-        out,
-        marks,
-        row_groups,
-        column_groups,
-        faulty,
+        out: lines_of_mut(out.lines),
+        marks: out.marks,
+        row_groups: read_parity(lines_of(row_table), of_rows),
+        column_groups: read_parity(lines_of(column_table), of_columns),
+        faulty: 0,
     };
+    rectangle.first_reading(lines_of(lines));
     let passes = rectangle.passes();
-    let answer = rectangle.answer();
+    if rectangle.faulty == 0 {
+        make_afresh(&rectangle.row_groups, of_rows);
+        make_afresh(&rectangle.column_groups, of_columns);
+    }
     Repair {
-        answer,
+        answer: rectangle.answer(),
         passes,
-        number: 0,
     }
 }
 
-/// What repair gives where the parity line of some group isn't correct: rows
-/// before columns, and the first of them.
-#[cold]
-fn bad_parity(row_groups: &[Group], column_groups: &[Group]) -> Repair {
-    let first = |groups: &[Group]| groups.iter().position(|group| !group.parity_is_correct());
-    let (answer, number) = match first(row_groups) {
-        Some(row) => (answer::ROW_PARITY, row),
-        None => (answer::COLUMN_PARITY, first(column_groups).unwrap_or(0)),
+/// Reads every parity line alone and writes it out, as read or as found; gives
+/// the groups before any of their lines is read.
+fn read_parity(table: &[[u8; LINE_BYTES]], out: &mut [[u8; LINE_BYTES]]) -> Vec<Group> {
+    let lines = table.iter().zip(out);
+    let group = |(found, out): (&_, &mut _)| {
+        let mut parity = code::load(found);
+        let usable = code::read_alone(&mut parity) != mark::FAULTY;
+        code::store(&parity, out);
+        Group {
+            // An unusable group's lines are summed alone: that is its parity
+            // line made afresh.
+            lacks: if usable { parity } else { ZERO },
+            faulty: 0,
+            usable,
+            changed: true,
+        }
     };
-    Repair {
-        answer,
-        passes: 0,
-        number: number as u64,
+    lines.map(group).collect()
+}
+
+/// Writes the parity lines of unusable groups, none of whose lines is faulty.
+fn make_afresh(groups: &[Group], out: &mut [[u8; LINE_BYTES]]) {
+    for (group, out) in groups.iter().zip(out) {
+        if !group.usable {
+            code::store(&group.lacks, out);
+        }
     }
 }
 
 /// A row or a column.
 struct Group {
-    /// The exclusive or of its parity line and its lines as they stand.
+    /// The exclusive or of its parity line and its lines as they stand; of its
+    /// lines alone where it is unusable.
     lacks: Words,
     /// How many of its lines are faulty.
     faulty: usize,
+    /// Whether its parity line was accepted.
+    usable: bool,
     /// Whether something changed since its last visit.
     changed: bool,
 }
 
 impl Group {
-    fn new(parity: Words) -> Group {
-        Group {
-            lacks: parity,
-            faulty: 0,
-            changed: true,
-        }
-    }
-
-    /// Whether its parity line is correct, before any line is added to it.
-    fn parity_is_correct(&self) -> bool {
-        code::correct(&self.lacks)
-    }
-
     /// Whether a visit may mend anything.
     fn worth_a_visit(&self) -> bool {
-        self.changed && self.faulty > 0
+        self.usable && self.changed && self.faulty > 0
     }
 }
 
@@ -208,6 +189,30 @@ struct Rectangle<'a> {
 }
 
 impl Rectangle<'_> {
+    /// Reads every line alone.
+    fn first_reading(&mut self, lines: &[[u8; LINE_BYTES]]) {
+        let rows = lines.chunks_exact(self.columns).zip(&mut self.row_groups);
+        let out = self.out.chunks_exact_mut(self.columns);
+        let marks = self.marks.chunks_exact_mut(self.columns);
+        for (((found, row), out), marks) in rows.zip(out).zip(marks) {
+            let mut lacks = row.lacks;
+            let columns = self.column_groups.iter_mut();
+            for (((found, out), mark), column) in found.iter().zip(out).zip(marks).zip(columns) {
+                let mut words = code::load(found);
+                *mark = code::read_alone(&mut words);
+                code::add(&mut lacks, &words);
+                code::add(&mut column.lacks, &words);
+                code::store(&words, out);
+                if *mark == mark::FAULTY {
+                    row.faulty += 1;
+                    column.faulty += 1;
+                    self.faulty += 1;
+                }
+            }
+            row.lacks = lacks;
+        }
+    }
+
     /// Makes passes until none is faulty or one mended nothing.
     fn passes(&mut self) -> u64 {
         let mut passes = 0;
@@ -317,7 +322,7 @@ impl Rectangle<'_> {
         let mut groups = self.row_groups.iter().chain(&self.column_groups);
         if self.faulty > 0 {
             answer::LEFT
-        } else if groups.any(|group| group.lacks != ZERO) {
+        } else if groups.any(|group| group.usable && group.lacks != ZERO) {
             answer::DIFFERS
         } else {
             answer::DONE

@@ -8,8 +8,8 @@
 use crate::line::{self, SPARE};
 use crate::random::Random;
 use crate::{
-    DATA_BYTES, DATA_PLACES, HAMMING_PLACES, LINE_BYTES, PLACES, PROTECTED_PLACES, answer, file,
-    make_tables, repair, write_line,
+    DATA_BYTES, DATA_PLACES, HAMMING_PLACES, LINE_BYTES, Out, PLACES, PROTECTED_PLACES, answer,
+    file, make_tables, repair, write_line,
 };
 
 /// A store: its sides, its lines and both tables as bytes.
@@ -34,12 +34,14 @@ pub struct Outcome {
     pub answer: u32,
     /// The passes.
     pub passes: u64,
-    /// The number of the first bad row or column.
-    pub number: u64,
     /// The lines written out.
     pub lines: Vec<u8>,
     /// The marks written out.
     pub marks: Vec<u8>,
+    /// The row table written out.
+    pub row_table: Vec<u8>,
+    /// The column table written out.
+    pub column_table: Vec<u8>,
 }
 
 impl Store {
@@ -117,24 +119,50 @@ impl Store {
     /// What repair gives for this store, with buffers of the right lengths
     /// that hold `filling` before.
     pub fn repaired(&self, filling: u8) -> Outcome {
-        let mut lines = vec![filling; self.count() * LINE_BYTES];
-        let mut marks = vec![filling; self.count()];
-        let given = repair(
-            self.rows,
-            self.columns,
-            &self.lines,
-            &self.row_table,
-            &self.column_table,
-            &mut lines,
-            &mut marks,
-        );
+        let outcome = Outcome {
+            answer: 0,
+            passes: 0,
+            lines: vec![filling; self.lines.len()],
+            marks: vec![filling; self.count()],
+            row_table: vec![filling; self.row_table.len()],
+            column_table: vec![filling; self.column_table.len()],
+        };
+        let tables = (&self.row_table[..], &self.column_table[..]);
+        outcome.of_repair(self.rows, self.columns, &self.lines, tables)
+    }
+}
+
+impl Outcome {
+    /// The buffers that repair writes, as they stand before this call; answer
+    /// and passes are 0.
+    pub fn before(call: &Call) -> Outcome {
         Outcome {
-            answer: given.answer,
-            passes: given.passes,
-            number: given.number,
-            lines,
-            marks,
+            answer: 0,
+            passes: 0,
+            lines: call.out.clone(),
+            marks: call.marks.clone(),
+            row_table: call.row_out.clone(),
+            column_table: call.column_out.clone(),
         }
+    }
+
+    /// What repair gives over these buffers.
+    fn of_repair(
+        mut self,
+        rows: usize,
+        columns: usize,
+        lines: &[u8],
+        (row_table, column_table): (&[u8], &[u8]),
+    ) -> Outcome {
+        let out = Out {
+            lines: &mut self.lines,
+            marks: &mut self.marks,
+            row_table: &mut self.row_table,
+            column_table: &mut self.column_table,
+        };
+        let given = repair(rows, columns, lines, row_table, column_table, out);
+        (self.answer, self.passes) = (given.answer, given.passes);
+        self
     }
 }
 
@@ -269,12 +297,16 @@ pub enum Damage {
     /// Lines hurt in one to ten of their Hamming bits and nowhere else, and a
     /// few lines hurt anywhere.
     HammingBits,
-    /// One to three parity lines, mostly of one table, hurt at one to three
-    /// places each.
+    /// Some parity lines of both tables hurt at one to seven places or in
+    /// Hamming bits alone, and some lines hurt.
     ParityHurt,
-    /// A parity line replaced by another correct one, and a few lines hurt.
+    /// Most parity lines of a table or of both hurt past reading, and lines that
+    /// only the others can mend.
+    ParityGone,
+    /// A parity line replaced by another correct one, which may be hurt too, and
+    /// a few lines hurt.
     ParityForeign,
-    /// Lines of any bytes.
+    /// Lines and parity lines of any bytes.
     Noise,
     /// Two of the above, one upon the other.
     Both,
@@ -282,7 +314,7 @@ pub enum Damage {
 
 impl Damage {
     /// Every way.
-    pub const ALL: [Damage; 18] = [
+    pub const ALL: [Damage; 19] = [
         Damage::Nothing,
         Damage::Singles,
         Damage::Scattered,
@@ -298,6 +330,7 @@ impl Damage {
         Damage::SpareBits,
         Damage::HammingBits,
         Damage::ParityHurt,
+        Damage::ParityGone,
         Damage::ParityForeign,
         Damage::Noise,
         Damage::Both,
@@ -439,27 +472,28 @@ pub fn hurt(random: &mut Random, store: &mut Store, way: Damage) {
             hurt_a_few(random, store);
         }
         Damage::ParityHurt => {
-            // A bad row hides the bad columns.
-            let of_rows = random.once_in(2);
-            for _ in 0..random.between(1, 3) {
-                let count = random.between(1, 3);
-                let places = places(random, count);
-                let of_rows = of_rows != random.once_in(8);
-                flip(parity_line(random, store, of_rows), &places);
-            }
+            hurt_parity(random, store);
             hurt(random, store, Damage::Scattered);
         }
+        Damage::ParityGone => lose_parity(random, store),
         Damage::ParityForeign => {
-            let foreign = correct_line(random);
+            let mut foreign = correct_line(random);
+            let count = random.between(0, 2);
+            flip(&mut foreign, &places(random, count));
             let of_rows = random.once_in(2);
             parity_line(random, store, of_rows).copy_from_slice(&foreign);
             hurt_a_few(random, store);
         }
         Damage::Noise => {
             let times = random.between(1, 8);
-            for n in 0..store.count() {
+            for line in store.lines.chunks_exact_mut(LINE_BYTES) {
                 if random.once_in(times) {
-                    random.fill(store.line_mut(n));
+                    random.fill(line);
+                }
+            }
+            for line in parity_lines(store) {
+                if random.once_in(4 * times) {
+                    random.fill(line);
                 }
             }
         }
@@ -478,6 +512,46 @@ fn hurt_a_few(random: &mut Random, store: &mut Store) {
     let way = *random
         .pick(&[Damage::Nothing, Damage::Crowded, Damage::NearSix])
         .unwrap_or(&Damage::Nothing);
+    hurt(random, store, way);
+}
+
+/// Hurts some parity lines: at one to seven places, or in Hamming bits alone.
+fn hurt_parity(random: &mut Random, store: &mut Store) {
+    let times = random.between(1, 4);
+    for line in parity_lines(store) {
+        if random.once_in(times) {
+            let count = random.between(1, 7);
+            let hurt = match random.below(4) {
+                0 => hamming_places(random),
+                1 => places(random, 1),
+                _ => places(random, count),
+            };
+            flip(line, &hurt);
+        }
+    }
+}
+
+/// Hurts most parity lines of one table or of both past reading, and lines in a
+/// way that asks for rows and columns.
+fn lose_parity(random: &mut Random, store: &mut Store) {
+    let tables = random.between(1, 3);
+    let rows = store.rows;
+    for (n, line) in parity_lines(store).enumerate() {
+        let table = if n < rows { 1 } else { 2 };
+        if tables & table != 0 && !random.once_in(4) {
+            let count = random.between(2, 5);
+            flip(line, &places(random, count));
+        }
+    }
+    let ways = [
+        Damage::Singles,
+        Damage::Crowded,
+        Damage::NearSix,
+        Damage::OpenChain,
+        Damage::Foreign,
+        Damage::Cancelling,
+    ];
+    let way = *random.pick(&ways).unwrap_or(&Damage::Nothing);
     hurt(random, store, way);
 }
 
@@ -509,6 +583,12 @@ fn parity_line<'a>(random: &mut Random, store: &'a mut Store, of_rows: bool) -> 
     } else {
         nth_line(&mut store.column_table, random.below(store.columns))
     }
+}
+
+/// All parity lines, those of the rows first.
+fn parity_lines(store: &mut Store) -> impl Iterator<Item = &mut [u8]> {
+    let of_rows = store.row_table.chunks_exact_mut(LINE_BYTES);
+    of_rows.chain(store.column_table.chunks_exact_mut(LINE_BYTES))
 }
 
 /// Lines of which each shares its row and its column with the one before and
@@ -570,14 +650,18 @@ pub struct Call {
     pub columns: usize,
     /// The lines.
     pub lines: Vec<u8>,
-    /// The row table, read or written.
+    /// The row table; making tables and a change write it too.
     pub row_table: Vec<u8>,
-    /// The column table, read or written.
+    /// The column table, likewise.
     pub column_table: Vec<u8>,
     /// Repair's line buffer.
     pub out: Vec<u8>,
     /// Repair's marks.
     pub marks: Vec<u8>,
+    /// The row table that repair writes.
+    pub row_out: Vec<u8>,
+    /// The column table that repair writes.
+    pub column_out: Vec<u8>,
     /// The number of the line to be changed.
     pub n: usize,
     /// The data to be written.
@@ -586,6 +670,14 @@ pub struct Call {
     pub line: Vec<u8>,
     /// The buffer for a single line written or read.
     pub line_out: Vec<u8>,
+}
+
+impl Call {
+    /// What repair gives for this call.
+    pub fn repaired(&self) -> Outcome {
+        let tables = (&self.row_table[..], &self.column_table[..]);
+        Outcome::before(self).of_repair(self.rows, self.columns, &self.lines, tables)
+    }
 }
 
 /// A call over this store with right sides and lengths; line number, data, and
@@ -598,6 +690,8 @@ pub fn call_on(random: &mut Random, store: Store) -> Call {
         line: store.line(n).to_vec(),
         out: vec![0; store.lines.len()],
         marks: vec![0; store.count()],
+        row_out: vec![0; store.row_table.len()],
+        column_out: vec![0; store.column_table.len()],
         lines: store.lines,
         row_table: store.row_table,
         column_table: store.column_table,
@@ -608,6 +702,8 @@ pub fn call_on(random: &mut Random, store: Store) -> Call {
     for drawn in [
         &mut call.out,
         &mut call.marks,
+        &mut call.row_out,
+        &mut call.column_out,
         &mut call.data,
         &mut call.line_out,
     ] {
@@ -640,6 +736,8 @@ pub fn call(random: &mut Random, most: usize) -> Call {
         &mut call.column_table,
         &mut call.out,
         &mut call.marks,
+        &mut call.row_out,
+        &mut call.column_out,
         &mut call.data,
         &mut call.line,
         &mut call.line_out,
@@ -683,77 +781,95 @@ pub struct Ordered {
     pub order: Vec<usize>,
 }
 
-/// Draws a rectangle and damage with an order as demand 3 asks for, of at most
-/// `wanted` lines.
-///
-/// The order is drawn from its end: a line is put before those drawn so far if
-/// it may stand there.
-pub fn ordered(random: &mut Random, rows: usize, columns: usize, wanted: usize) -> Ordered {
-    let written = Store::random(random, rows, columns);
-    let mut damage: Vec<Vec<usize>> = vec![Vec::new(); written.count()];
-    let mut order: Vec<usize> = Vec::new();
-    let shared = places(random, 6);
-    // Now and then the lines make a chain and are hurt alike, so that each
-    // pass opens only its ends.
-    let in_chain = random.once_in(3);
-    let alike = if in_chain {
-        let count = random.between(2, 5);
-        Some(places(random, count))
-    } else {
-        None
-    };
+/// The most damaged bits that demand 3 allows in a line or a parity line.
+const MOST_DAMAGED: usize = 5;
 
-    for _ in 0..wanted.saturating_mul(4) {
-        if order.len() >= wanted {
-            break;
-        }
-        let n = if in_chain && !random.once_in(40) {
-            next_in_chain(random, &order, rows, columns)
-        } else {
-            near(random, &order, rows, columns)
-        };
-        if order.contains(&n) {
-            continue;
-        }
-        let in_row: Vec<usize> = left_in_row(&order, n, columns);
-        let in_column: Vec<usize> = left_in_column(&order, n, columns);
+/// The damaged places of each line and of each parity line.
+struct Damaged {
+    lines: Vec<Vec<usize>>,
+    of_rows: Vec<Vec<usize>>,
+    of_columns: Vec<Vec<usize>>,
+}
 
-        if in_row.is_empty() || in_column.is_empty() {
-            let count = random.between(2, 5);
-            damage[n] = match &alike {
-                Some(places) => places.clone(),
-                None => drawn_near(random, &shared, count),
-            };
-            order.push(n);
-            continue;
-        }
-        // Exactly two damaged bits, one other left in the group.
-        let one_other = [in_row, in_column].into_iter().filter(|g| g.len() == 1);
-        let others: Vec<usize> = one_other.flatten().collect();
-        let Some(&other) = random.pick(&others) else {
-            continue;
+impl Damaged {
+    /// Where these two stores of the same sides differ.
+    fn between(written: &Store, hurt: &Store) -> Damaged {
+        let places = |written: &[u8], hurt: &[u8]| {
+            let lines = written.chunks(LINE_BYTES).zip(hurt.chunks(LINE_BYTES));
+            lines.map(|(a, b)| differing_places(a, b)).collect()
         };
-        let two = drawn_near(random, &shared, 2);
-        let not_both = !two.iter().all(|place| damage[other].contains(place));
-        if damage[other].len() <= 4 && not_both {
-            damage[n] = two;
-            order.push(n);
+        Damaged {
+            lines: places(&written.lines, &hurt.lines),
+            of_rows: places(&written.row_table, &hurt.row_table),
+            of_columns: places(&written.column_table, &hurt.column_table),
         }
     }
-    order.reverse();
+
+    /// Of the lines left, the others of line n's row and those of its column;
+    /// each only where the group counts: its parity line has at most one
+    /// damaged bit.
+    fn others_left(&self, left: &[usize], n: usize) -> Vec<Vec<usize>> {
+        let columns = self.of_columns.len();
+        let mut groups = vec![];
+        if self.of_rows[n / columns].len() <= 1 {
+            groups.push(left_in_row(left, n, columns));
+        }
+        if self.of_columns[n % columns].len() <= 1 {
+            groups.push(left_in_column(left, n, columns));
+        }
+        groups
+    }
+
+    /// Whether `two` and the damage of `other` are such that a line damaged at
+    /// these places may come while that one is left in its group.
+    fn mended_beside(&self, two: &[usize], other: usize) -> bool {
+        let other = &self.lines[other];
+        two.len() == 2 && other.len() <= 4 && two.iter().any(|place| !other.contains(place))
+    }
+
+    /// The store after this damage.
+    fn done_to(&self, written: &Store) -> Store {
+        let mut hurt = written.clone();
+        let tables = [
+            (&mut hurt.lines, &self.lines),
+            (&mut hurt.row_table, &self.of_rows),
+            (&mut hurt.column_table, &self.of_columns),
+        ];
+        for (lines, damage) in tables {
+            for (line, places) in lines.chunks_exact_mut(LINE_BYTES).zip(damage) {
+                flip(line, places);
+            }
+        }
+        hurt
+    }
+}
+
+/// Draws a rectangle and damage with an order as demand 3 asks for, of at most
+/// `wanted` lines.
+pub fn ordered(random: &mut Random, rows: usize, columns: usize, wanted: usize) -> Ordered {
+    let written = Store::random(random, rows, columns);
+    let mut damaged = Damaged {
+        lines: vec![vec![]; written.count()],
+        of_rows: vec![vec![]; rows],
+        of_columns: vec![vec![]; columns],
+    };
+    let favoured = Favoured::drawn(random);
+    if random.once_in(2) {
+        let times = random.between(3, 12);
+        for places in damaged.of_rows.iter_mut().chain(&mut damaged.of_columns) {
+            *places = parity_damage(random, &favoured.shared, times);
+        }
+    }
+    let order = drawn_order(random, &mut damaged, &favoured, wanted);
 
     // Any other line may lose one bit.
     let times = random.between(1, 8);
-    for (n, places) in damage.iter_mut().enumerate() {
+    for (n, places) in damaged.lines.iter_mut().enumerate() {
         if !order.contains(&n) && random.once_in(times) {
             places.push(place(random));
         }
     }
-
-    let mut hurt = written.clone();
-    for (n, places) in damage.iter().enumerate() {
-        hurt.hurt(n, places);
-    }
+    let mut hurt = damaged.done_to(&written);
     if random.once_in(2) {
         set_spare_bits(random, &mut hurt.lines, 2);
         set_spare_bits(random, &mut hurt.row_table, 2);
@@ -764,6 +880,97 @@ pub fn ordered(random: &mut Random, rows: usize, columns: usize, wanted: usize) 
         hurt,
         order,
     }
+}
+
+/// Places that damage is drawn from.
+struct Favoured {
+    /// About half of a line's places are among these.
+    shared: Vec<usize>,
+    /// Now and then the lines make a chain and are all hurt at these, so that
+    /// each pass opens only its ends.
+    alike: Option<Vec<usize>>,
+}
+
+impl Favoured {
+    fn drawn(random: &mut Random) -> Favoured {
+        let count = random.between(2, MOST_DAMAGED);
+        Favoured {
+            shared: places(random, 6),
+            alike: random.once_in(3).then(|| places(random, count)),
+        }
+    }
+}
+
+/// Places of a parity line: mostly none, as often one as two to five.
+fn parity_damage(random: &mut Random, shared: &[usize], times: usize) -> Vec<usize> {
+    let count = random.between(2, MOST_DAMAGED);
+    match random.below(2 * times) {
+        0 | 1 => vec![place(random)],
+        2 => drawn_near(random, shared, count),
+        3 => {
+            let mut places = hamming_places(random);
+            places.truncate(MOST_DAMAGED);
+            places
+        }
+        _ => vec![],
+    }
+}
+
+/// Draws an order of at most `wanted` lines, and the damage of these.
+///
+/// It is drawn from its end: a line is put before those drawn so far if it may
+/// stand there.
+fn drawn_order(
+    random: &mut Random,
+    damaged: &mut Damaged,
+    favoured: &Favoured,
+    wanted: usize,
+) -> Vec<usize> {
+    let (rows, columns) = (damaged.of_rows.len(), damaged.of_columns.len());
+    let mut order: Vec<usize> = vec![];
+    for _ in 0..wanted.saturating_mul(4) {
+        if order.len() >= wanted {
+            break;
+        }
+        let n = if favoured.alike.is_some() && !random.once_in(40) {
+            next_in_chain(random, &order, rows, columns)
+        } else {
+            near(random, &order, rows, columns)
+        };
+        if order.contains(&n) {
+            continue;
+        }
+        if let Some(places) = damage_at_turn(random, damaged, favoured, &order, n) {
+            damaged.lines[n] = places;
+            order.push(n);
+        }
+    }
+    order.reverse();
+    order
+}
+
+/// Damage of line n with which it may come before these lines that are left;
+/// none if there is no such damage, or none was drawn.
+fn damage_at_turn(
+    random: &mut Random,
+    damaged: &Damaged,
+    favoured: &Favoured,
+    left: &[usize],
+    n: usize,
+) -> Option<Vec<usize>> {
+    let shared = &favoured.shared;
+    let groups = damaged.others_left(left, n);
+    if groups.iter().any(Vec::is_empty) {
+        let count = random.between(2, MOST_DAMAGED);
+        let drawn = drawn_near(random, shared, count);
+        return Some(favoured.alike.clone().unwrap_or(drawn));
+    }
+    // Exactly two damaged bits, one other left in the group.
+    let one_other = groups.into_iter().filter(|others| others.len() == 1);
+    let others: Vec<usize> = one_other.flatten().collect();
+    let &other = random.pick(&others)?;
+    let two = drawn_near(random, shared, 2);
+    damaged.mended_beside(&two, other).then_some(two)
 }
 
 /// A line in the row or column of one of these, mostly.
@@ -827,43 +1034,33 @@ pub fn order_fits(written: &Store, hurt: &Store, order: &[usize]) -> bool {
     if tables.tables_anew() != answer::DONE || tables != *written {
         return false;
     }
-    if (hurt.rows, hurt.columns) != (written.rows, written.columns)
-        || hurt.lines.len() != written.lines.len()
-        || !same_places(&hurt.row_table, &written.row_table)
-        || !same_places(&hurt.column_table, &written.column_table)
-    {
+    let sizes = |store: &Store| {
+        let tables = (store.row_table.len(), store.column_table.len());
+        (store.rows, store.columns, store.lines.len(), tables)
+    };
+    if sizes(hurt) != sizes(written) {
         return false;
     }
-    let damage: Vec<Vec<usize>> = (0..written.count())
-        .map(|n| differing_places(written.line(n), hurt.line(n)))
-        .collect();
-    if damage.iter().any(|places| places.len() > 5) {
+    let damaged = Damaged::between(written, hurt);
+    let parity = damaged.of_rows.iter().chain(&damaged.of_columns);
+    let mut all = damaged.lines.iter().chain(parity);
+    if all.any(|places| places.len() > MOST_DAMAGED) {
         return false;
     }
 
     // In the order stands each line with two or more, once, and no other.
     let mut sorted = order.to_vec();
     sorted.sort_unstable();
-    let due: Vec<usize> = (0..damage.len())
-        .filter(|&n| damage[n].len() >= 2)
-        .collect();
+    let mut due: Vec<usize> = (0..written.count()).collect();
+    due.retain(|&n| damaged.lines[n].len() >= 2);
     if sorted != due {
         return false;
     }
-
     order.iter().enumerate().all(|(turn, &n)| {
-        let left = &order[turn..];
-        let groups = [
-            left_in_row(left, n, written.columns),
-            left_in_column(left, n, written.columns),
-        ];
+        let groups = damaged.others_left(&order[turn..], n);
         groups.iter().any(|others| match others[..] {
             [] => true,
-            [other] => {
-                damage[n].len() == 2
-                    && damage[other].len() <= 4
-                    && damage[n].iter().any(|place| !damage[other].contains(place))
-            }
+            [other] => damaged.mended_beside(&damaged.lines[n], other),
             _ => false,
         })
     })

@@ -3,7 +3,7 @@
 use std::ops::Range;
 
 use crate::rectangle::sides_fit;
-use crate::repair::repair;
+use crate::repair::{Out, repair};
 use crate::{GREATEST_SIDE, LINE_BYTES, PROGRAM_SIDE, answer};
 
 /// Bytes of the header.
@@ -120,16 +120,19 @@ pub fn storecheck(file: &[u8]) -> String {
         return only_answer(store.answer);
     }
     let (rows, columns) = (store.rows, store.columns);
-    let mut out = vec![0; rows * columns * LINE_BYTES];
     let mut marks = vec![0; rows * columns];
     let repaired = repair(
         rows,
         columns,
-        &file[store.lines],
-        &file[store.row_table],
-        &file[store.column_table],
-        &mut out,
-        &mut marks,
+        &file[store.lines.clone()],
+        &file[store.row_table.clone()],
+        &file[store.column_table.clone()],
+        Out {
+            lines: &mut vec![0; store.lines.len()],
+            marks: &mut marks,
+            row_table: &mut vec![0; store.row_table.len()],
+            column_table: &mut vec![0; store.column_table.len()],
+        },
     );
     if answer::turns_back(repaired.answer) {
         return only_answer(repaired.answer);

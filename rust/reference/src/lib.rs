@@ -1,5 +1,5 @@
 //! A second implementation of the caption store, written from its rules alone:
-//! document 01, with requests of document 02.
+//! document 01, with requests of document 02.
 //!
 //! It is made to be read beside that document, not to be fast: a line is a
 //! row of 553 truth values, a check is a long division, and repair follows
@@ -12,9 +12,9 @@
 //! | "Reading alone", for any width | [`code`] |
 //! | "One line, 70 bytes" | [`line`](mod@line) |
 //! | "The rectangle" | [`rectangle`] |
-//! | "Repair" | [`repair`](mod@repair) |
+//! | "Repair", as Q-3 changes it | [`repair`](mod@repair) |
 //! | "Store file" | [`file`](mod@file) |
-//! | "Turned back, in checking order", as Q-2 changes it | [`answer`] |
+//! | "Turned back, in checking order", as change it | [`answer`] |
 //! | The marks, as Q-1 changes them | [`mark`] |
 //!
 //! [`random`] and [`draw`] make inputs for tests: stores, damage and files,
@@ -58,7 +58,7 @@ pub mod repair;
 pub use file::{StoreFile, check_file, storecheck};
 pub use line::{ReadLine, read_line, write_line};
 pub use rectangle::{Change, change_line, make_tables};
-pub use repair::{Repair, repair};
+pub use repair::{Out, Repair, repair};
 
 /// Data bytes of one line.
 pub const DATA_BYTES: usize = 64;
@@ -110,15 +110,16 @@ pub mod answer {
     pub const BUFFER: u32 = 7;
     /// The line number isn't below rows times columns.
     pub const NUMBER: u32 = 8;
-    /// A row's parity line, spare bits apart, isn't a correct line.
+    /// In a change: the row's parity line, spare bits apart, isn't correct.
     pub const ROW_PARITY: u32 = 13;
-    /// A column's parity line, spare bits apart, isn't a correct line.
+    /// In a change: the column's parity line, spare bits apart, isn't correct.
     pub const COLUMN_PARITY: u32 = 14;
     /// A line to be read alone, changed or summed is faulty.
     pub const FAULTY: u32 = 10;
     /// Faulty lines are left after the last pass.
     pub const LEFT: u32 = 11;
-    /// No line is faulty, but some parity line differs from the repaired lines'.
+    /// No line is faulty, but some accepted parity line differs from the repaired
+    /// lines'.
     pub const DIFFERS: u32 = 12;
 
     /// Whether this answer turns a call back: with 0, 11 and 12 results are

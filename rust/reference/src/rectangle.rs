@@ -32,7 +32,7 @@ pub(crate) fn sum(lines: &[Line], members: &[usize]) -> Line {
 }
 
 /// The row table and the column table of these lines.
-pub(crate) fn tables(rows: usize, columns: usize, lines: &[Line]) -> (Vec<Line>, Vec<Line>) {
+fn tables(rows: usize, columns: usize, lines: &[Line]) -> (Vec<Line>, Vec<Line>) {
     let of_rows = (0..rows).map(|row| sum(lines, &row_members(row, columns)));
     let of_columns = (0..columns).map(|column| sum(lines, &column_members(column, rows, columns)));
     (of_rows.collect(), of_columns.collect())

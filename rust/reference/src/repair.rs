@@ -1,97 +1,126 @@
 //! Repair of a rectangle.
 
 use crate::line::{self, Line, exclusive_or};
-use crate::rectangle::{
-    all_places, column_members, row_members, sides_fit, sum, tables, write_all,
-};
+use crate::rectangle::{all_places, column_members, row_members, sides_fit, sum, write_all};
 use crate::{LINE_BYTES, answer, mark};
 
-/// What repair gives, beside the lines and marks written out.
+/// The buffers that repair writes.
+pub struct Out<'a> {
+    /// The lines.
+    pub lines: &'a mut [u8],
+    /// A mark for each line.
+    pub marks: &'a mut [u8],
+    /// The parity lines of the rows.
+    pub row_table: &'a mut [u8],
+    /// The parity lines of the columns.
+    pub column_table: &'a mut [u8],
+}
+
+/// What repair gives, beside what it writes out.
 #[derive(Clone, Copy, Debug, PartialEq, Eq)]
 pub struct Repair {
     /// The answer.
     pub answer: u32,
     /// The passes made; 0 where the answer turns back.
     pub passes: u64,
-    /// The first bad row with 13, the first bad column with 14, otherwise 0.
-    pub number: u64,
 }
 
 /// The greatest number of mismatch places that are tried.
 const MOST_TRIED: usize = 6;
 
-/// Repairs a rectangle: reads lines and tables, writes lines into `out` and
-/// one mark for each into `marks`.
+/// Repairs a rectangle: reads lines and tables, writes lines, marks and both
+/// tables into `out`.
 ///
-/// Refusals: 2, 5, 6 (either table), 7 (out or marks), 13 (the parity line of
-/// any row), 14 (that of any column). With 11 and 12 lines and marks are still
-/// written.
+/// Refusals: 2, 5, 6 (any table, read or written), 7 (lines or marks written).
+/// With 11 and 12 everything is still written.
 pub fn repair(
     rows: usize,
     columns: usize,
     lines: &[u8],
     row_table: &[u8],
     column_table: &[u8],
-    out: &mut [u8],
-    marks: &mut [u8],
+    out: Out,
 ) -> Repair {
-    let refused_for = |answer, number: usize| Repair {
-        answer,
-        passes: 0,
-        number: number as u64,
-    };
-    let refused = |answer| refused_for(answer, 0);
-    if !sides_fit(rows, columns) {
-        return refused(answer::SIDES);
-    }
-    if lines.len() != rows * columns * LINE_BYTES {
-        return refused(answer::LINES);
-    }
-    if row_table.len() != rows * LINE_BYTES || column_table.len() != columns * LINE_BYTES {
-        return refused(answer::TABLE);
-    }
-    if out.len() != rows * columns * LINE_BYTES || marks.len() != rows * columns {
-        return refused(answer::BUFFER);
-    }
-    let row_parity = all_places(row_table);
-    let column_parity = all_places(column_table);
-    let first_bad = |table: &[Line]| table.iter().position(|parity| !line::correct(parity));
-    if let Some(row) = first_bad(&row_parity) {
-        return refused_for(answer::ROW_PARITY, row);
-    }
-    if let Some(column) = first_bad(&column_parity) {
-        return refused_for(answer::COLUMN_PARITY, column);
+    let tables = [row_table.len(), column_table.len()];
+    if let Some(answer) = refusal(rows, columns, lines.len(), tables, &out) {
+        return Repair { answer, passes: 0 };
     }
 
+    let of_rows = Group::all(row_table, |row| row_members(row, columns));
+    let of_columns = Group::all(column_table, |column| column_members(column, rows, columns));
     let mut held = Held::read_alone(lines);
     let mut passes = 0;
     while held.some_faulty() {
         passes += 1;
-        let mut mended = 0;
-        for (row, parity) in row_parity.iter().enumerate() {
-            mended += held.visit(&row_members(row, columns), parity);
-        }
-        for (column, parity) in column_parity.iter().enumerate() {
-            mended += held.visit(&column_members(column, rows, columns), parity);
-        }
+        let visited = of_rows.iter().chain(&of_columns);
+        let mended: usize = visited.map(|group| held.visit(group)).sum();
         if mended == 0 {
             break;
         }
     }
 
-    write_all(&held.lines, out);
-    marks.copy_from_slice(&held.marks);
+    write_all(&held.lines, out.lines);
+    out.marks.copy_from_slice(&held.marks);
+    write_all(&held.handed_over(&of_rows), out.row_table);
+    write_all(&held.handed_over(&of_columns), out.column_table);
     let answer = if held.some_faulty() {
         answer::LEFT
-    } else if tables(rows, columns, &held.lines) != (row_parity, column_parity) {
+    } else if of_rows.iter().chain(&of_columns).any(|g| held.differs(g)) {
         answer::DIFFERS
     } else {
         answer::DONE
     };
-    Repair {
-        answer,
-        passes,
-        number: 0,
+    Repair { answer, passes }
+}
+
+/// The first refusal that fits, given the lengths of the lines and the tables
+/// read.
+fn refusal(
+    rows: usize,
+    columns: usize,
+    lines: usize,
+    tables: [usize; 2],
+    out: &Out,
+) -> Option<u32> {
+    if !sides_fit(rows, columns) {
+        return Some(answer::SIDES);
+    }
+    let all_lines = rows * columns * LINE_BYTES;
+    if lines != all_lines {
+        return Some(answer::LINES);
+    }
+    let right = [rows * LINE_BYTES, columns * LINE_BYTES];
+    if tables != right || [out.row_table.len(), out.column_table.len()] != right {
+        return Some(answer::TABLE);
+    }
+    if out.lines.len() != all_lines || out.marks.len() != rows * columns {
+        return Some(answer::BUFFER);
+    }
+    None
+}
+
+/// A row or a column.
+struct Group {
+    /// The numbers of its lines, rising.
+    members: Vec<usize>,
+    /// Its parity line as it reads alone; as found where that is faulty.
+    parity: Line,
+    /// Whether its parity line was accepted: if not, its visits do nothing.
+    usable: bool,
+}
+
+impl Group {
+    /// The groups of a table, each with its parity line read alone.
+    fn all(table: &[u8], members: impl Fn(usize) -> Vec<usize>) -> Vec<Group> {
+        let group = |(n, found): (usize, &Line)| {
+            let (parity, mark) = line::read_alone(found);
+            Group {
+                members: members(n),
+                parity,
+                usable: mark != mark::FAULTY,
+            }
+        };
+        all_places(table).iter().enumerate().map(group).collect()
     }
 }
 
@@ -112,34 +141,43 @@ impl Held {
         self.marks.contains(&mark::FAULTY)
     }
 
-    /// The members of a group that are faulty, in rising order.
-    fn faulty(&self, members: &[usize]) -> Vec<usize> {
+    /// The lines of a group that are faulty, in rising order.
+    fn faulty(&self, group: &Group) -> Vec<usize> {
         let is_faulty = |&n: &usize| self.marks[n] == mark::FAULTY;
-        members.iter().copied().filter(is_faulty).collect()
+        group.members.iter().copied().filter(is_faulty).collect()
+    }
+
+    /// The exclusive or of a group's lines.
+    fn sum(&self, group: &Group) -> Line {
+        sum(&self.lines, &group.members)
     }
 
     /// Visits a group; gives how many lines it mended.
-    fn visit(&mut self, members: &[usize], parity: &Line) -> usize {
-        let faulty = self.faulty(members);
+    fn visit(&mut self, group: &Group) -> usize {
+        if !group.usable {
+            return 0;
+        }
+        let faulty = self.faulty(group);
         match faulty.len() {
             0 => {}
-            1 => self.rebuild(faulty[0], members, parity),
-            _ => self.trials(&faulty, members, parity),
+            1 => self.rebuild(faulty[0], group),
+            _ => self.trials(&faulty, group),
         }
-        faulty.len() - self.faulty(members).len()
+        faulty.len() - self.faulty(group).len()
     }
 
     /// Line n becomes the exclusive or of the parity line and the others.
-    fn rebuild(&mut self, n: usize, members: &[usize], parity: &Line) {
-        let others: Vec<usize> = members.iter().copied().filter(|&m| m != n).collect();
-        self.lines[n] = exclusive_or(parity, &sum(&self.lines, &others));
+    fn rebuild(&mut self, n: usize, group: &Group) {
+        let mut others = group.members.clone();
+        others.retain(|&member| member != n);
+        self.lines[n] = exclusive_or(&group.parity, &sum(&self.lines, &others));
         self.marks[n] = mark::REBUILT;
     }
 
     /// A visit to a group with two or more faulty lines.
-    fn trials(&mut self, faulty: &[usize], members: &[usize], parity: &Line) {
+    fn trials(&mut self, faulty: &[usize], group: &Group) {
         // The mismatch is worked out once, from the lines as they stand now.
-        let differs = exclusive_or(parity, &sum(&self.lines, members));
+        let differs = exclusive_or(&group.parity, &self.sum(group));
         let mismatch: Vec<usize> = (0..differs.len()).filter(|&p| differs[p]).collect();
         if mismatch.is_empty() || mismatch.len() > MOST_TRIED {
             return;
@@ -156,8 +194,27 @@ impl Held {
                 }
             }
         }
-        if let [last] = self.faulty(members)[..] {
-            self.rebuild(last, members, parity);
+        if let [last] = self.faulty(group)[..] {
+            self.rebuild(last, group);
         }
+    }
+
+    /// The parity lines that are handed over for these groups: accepted ones as
+    /// read, the others as found, or made afresh where no line is left faulty.
+    fn handed_over(&self, groups: &[Group]) -> Vec<Line> {
+        let some_faulty = self.some_faulty();
+        let parity = |group: &Group| {
+            if group.usable || some_faulty {
+                group.parity
+            } else {
+                self.sum(group)
+            }
+        };
+        groups.iter().map(parity).collect()
+    }
+
+    /// Whether a group's parity line was accepted and isn't that of its lines.
+    fn differs(&self, group: &Group) -> bool {
+        group.usable && group.parity != self.sum(group)
     }
 }

@@ -2,10 +2,18 @@
 
 use std::collections::HashMap;
 
-use reference::draw::{self, Damage, Store};
+use reference::draw::{self, Damage, Outcome, Store};
 use reference::line::{self, places};
 use reference::random::Random;
 use reference::{LINE_BYTES, PLACES, PROTECTED_PLACES, polynomial, read_line, write_line};
+
+/// Repair gave 0 and exactly the rectangle written, lines and both tables.
+fn expect_written(outcome: &Outcome, written: &Store, case: usize) {
+    assert_eq!(outcome.answer, 0, "case {case}");
+    assert_eq!(outcome.lines, written.lines, "case {case}");
+    assert_eq!(outcome.row_table, written.row_table, "case {case}");
+    assert_eq!(outcome.column_table, written.column_table, "case {case}");
+}
 
 #[test]
 fn demand_3_returns_exactly_the_rectangle_written() {
@@ -13,6 +21,7 @@ fn demand_3_returns_exactly_the_rectangle_written() {
     let mut marks = [0usize; 5];
     let mut longest = 0;
     let mut most_passes = 0;
+    let mut parity_hurt = 0;
     for case in 0..4000 {
         let (rows, columns) = draw::sides(&mut random, 2 + case % 9);
         let wanted = random.below(2 * (rows + columns));
@@ -20,19 +29,25 @@ fn demand_3_returns_exactly_the_rectangle_written() {
         assert!(draw::order_fits(&drawn.written, &drawn.hurt, &drawn.order));
 
         let outcome = drawn.hurt.repaired(0x5A);
-        assert_eq!(outcome.answer, 0, "case {case}");
-        assert_eq!(outcome.lines, drawn.written.lines, "case {case}");
+        expect_written(&outcome, &drawn.written, case);
         assert!(outcome.passes as usize <= drawn.order.len());
+        parity_hurt += usize::from(!draw::same_places(
+            &drawn.hurt.row_table,
+            &drawn.written.row_table,
+        ));
         for mark in outcome.marks {
             marks[usize::from(mark)] += 1;
         }
         longest = longest.max(drawn.order.len());
         most_passes = most_passes.max(outcome.passes);
     }
-    println!("marks {marks:?}, longest order {longest}, most passes {most_passes}");
+    println!(
+        "marks {marks:?}, longest order {longest}, most passes {most_passes}, \
+         row tables hurt {parity_hurt}"
+    );
     assert!(marks[..4].iter().all(|&count| count > 1000));
     assert_eq!(marks[4], 0);
-    assert!(longest > 12 && most_passes > 2);
+    assert!(longest > 12 && most_passes > 2 && parity_hurt > 500);
 }
 
 #[test]
@@ -52,8 +67,8 @@ fn demand_3_on_staircases_with_trials() {
         }
         assert!(draw::order_fits(&written, &hurt, &order));
         let outcome = hurt.repaired(0);
-        assert_eq!((outcome.answer, outcome.passes), (0, 1));
-        assert_eq!(outcome.lines, written.lines);
+        expect_written(&outcome, &written, side);
+        assert_eq!(outcome.passes, 1);
     }
 }
 
@@ -90,12 +105,50 @@ fn order_fits_refuses_what_demand_3_does_not_allow() {
     assert!(!fits(&ring(&[1, 2], &[1, 3, 4, 5, 6]), &[0, 1, 2, 3]));
     assert!(!fits(&ring(&[1, 2, 3], &[4, 5]), &[0, 1, 2, 3]));
     assert!(fits(&ring(&[1, 2, 3], &[4, 5]), &[1, 0, 2, 3]));
-    // Tables must be undamaged, spare bits apart.
+}
+
+#[test]
+fn order_fits_counts_groups_by_their_parity_lines() {
+    let written = Store::random(&mut Random::new(6), 2, 2);
+    let fits = |hurt: &Store, order: &[usize]| draw::order_fits(&written, hurt, order);
+    // Any parity line may have five damaged bits; spare bits don't count.
     let mut tables = written.clone();
     tables.row_table[69] |= 0xFC;
+    tables.hurt_row_parity(0, &[1, 2, 3, 4, 5]);
+    tables.hurt_column_parity(0, &[543, 544, 545, 546, 547]);
     assert!(fits(&tables, &[]));
-    draw::flip(&mut tables.row_table, &[552]);
-    assert!(!fits(&tables, &[]));
+    let mut six = tables.clone();
+    six.hurt_row_parity(0, &[6]);
+    assert!(!fits(&six, &[]));
+    six = tables.clone();
+    six.hurt_column_parity(0, &[6]);
+    assert!(!fits(&six, &[]));
+    // Row 0 and column 0 don't count: line 0 has no group, line 1 its column,
+    // line 2 its row, line 3 both.
+    for (n, allowed) in [(0, false), (1, true), (2, true), (3, true)] {
+        let mut hurt = tables.clone();
+        hurt.hurt(n, &[1, 2]);
+        assert_eq!(fits(&hurt, &[n]), allowed, "line {n}");
+    }
+    // With at most one damaged bit a group counts.
+    let mut one = written.clone();
+    one.hurt_row_parity(0, &[1]);
+    one.hurt_column_parity(0, &[1, 2]);
+    one.hurt(0, &[1, 2]);
+    assert!(fits(&one, &[0]));
+    one.hurt_row_parity(0, &[2]);
+    assert!(!fits(&one, &[0]));
+    // Four lines that come by trial: by their columns where no row counts, and
+    // lines 0 and 2 not at all where column 0 doesn't count either.
+    let mut pair = written.clone();
+    for (n, places) in [(0, [1, 2]), (1, [3, 4]), (2, [5, 6]), (3, [7, 8])] {
+        pair.hurt(n, &places);
+    }
+    pair.hurt_row_parity(0, &[1, 2]);
+    pair.hurt_row_parity(1, &[1, 2]);
+    assert!(fits(&pair, &[0, 1, 2, 3]));
+    pair.hurt_column_parity(0, &[1, 2]);
+    assert!(!fits(&pair, &[0, 1, 2, 3]));
 }
 
 #[test]
@@ -222,15 +275,13 @@ fn draws_reach_every_answer_and_mark() {
         let outcome = store.repaired(0);
         answers[outcome.answer as usize] += 1;
         most_passes = most_passes.max(outcome.passes);
-        if [0, 11, 12].contains(&outcome.answer) {
-            for &mark in &outcome.marks {
-                marks[usize::from(mark)] += 1;
-            }
+        for &mark in &outcome.marks {
+            marks[usize::from(mark)] += 1;
         }
     }
     println!("answers {answers:?}, marks {marks:?}, most passes {most_passes}");
     for (answer, &count) in answers.iter().enumerate() {
-        let given = [0, 11, 12, 13, 14].contains(&answer);
+        let given = [0, 11, 12].contains(&answer);
         assert!(if given { count > 100 } else { count == 0 });
     }
     assert!(marks.iter().all(|&count| count > 100));
@@ -252,7 +303,7 @@ fn file_draws_reach_every_answer() {
     }
     println!("answers {answers:?}");
     for (answer, &count) in answers.iter().enumerate() {
-        let given = [0, 1, 2, 3, 4, 11, 12, 13, 14].contains(&answer);
+        let given = [0, 1, 2, 3, 4, 11, 12].contains(&answer);
         assert!(
             if given { count > 10 } else { count == 0 },
             "answer {answer}"
@@ -281,52 +332,67 @@ fn draws_are_the_same_again() {
     assert_eq!(numbers, public);
 }
 
+/// What repair gave for a line of a store, held against its reading alone;
+/// gives whether it was faulty at first.
+fn check_line(store: &Store, outcome: &Outcome, n: usize) -> bool {
+    let mut alone = [0; LINE_BYTES];
+    let read = read_line(store.line(n), &mut alone);
+    let (mark, out) = (
+        outcome.marks[n],
+        &outcome.lines[n * LINE_BYTES..][..LINE_BYTES],
+    );
+    // An accepted line is never altered later.
+    if read.mark != 4 {
+        assert_eq!((mark, out), (read.mark, &alone[..]));
+    } else {
+        assert!((2..=4).contains(&mark));
+    }
+    // What isn't faulty is correct, what is stays as found.
+    if mark == 4 {
+        assert_eq!(out, alone);
+    } else {
+        assert!(line::correct(&places(out)));
+    }
+    read.mark == 4
+}
+
 #[test]
 fn laws_of_repair() {
     let mut random = Random::new(13);
     for case in 0..3000 {
         let store = draw::hurt_store(&mut random, 7);
         let outcome = store.repaired(0xEE);
-        if [13, 14].contains(&outcome.answer) {
+        let lines = 0..store.count();
+        let faulty = lines.filter(|&n| check_line(&store, &outcome, n)).count();
+        assert!(outcome.passes <= faulty as u64);
+        assert_eq!(outcome.passes == 0, faulty == 0);
+        let left = outcome.marks.contains(&4);
+        assert_eq!(left, outcome.answer == 11, "case {case}");
+        if left {
             continue;
         }
-        let mut faulty_at_first = 0;
-        for n in 0..store.count() {
-            let mut alone = [0; LINE_BYTES];
-            let read = read_line(store.line(n), &mut alone);
-            let out = &outcome.lines[n * LINE_BYTES..][..LINE_BYTES];
-            // An accepted line is never altered later.
-            if read.mark != 4 {
-                assert_eq!((outcome.marks[n], out), (read.mark, &alone[..]));
-            } else {
-                faulty_at_first += 1;
-                assert!((2..=4).contains(&outcome.marks[n]));
-            }
-            // What isn't faulty is correct, what is stays as found.
-            if outcome.marks[n] == 4 {
-                assert_eq!(out, alone);
-            } else {
-                assert!(line::correct(&places(out)));
-            }
-        }
-        assert!(outcome.passes <= faulty_at_first);
-        assert_eq!(outcome.passes == 0, faulty_at_first == 0);
-        assert_eq!(
-            outcome.marks.contains(&4),
-            outcome.answer == 11,
-            "case {case}"
-        );
-        if outcome.answer == 0 {
-            let mut mended = store.clone();
-            mended.lines.clone_from(&outcome.lines);
-            assert_eq!(mended.tables_anew(), 0);
-            assert!(draw::same_places(&mended.row_table, &store.row_table));
-            assert!(draw::same_places(&mended.column_table, &store.column_table));
-            // Repairing again changes nothing.
-            let again = mended.repaired(0);
-            assert_eq!((again.answer, again.passes), (0, 0));
-            assert_eq!(again.lines, outcome.lines);
-        }
+        // Every parity line written out is a correct line.
+        let tables = [&outcome.row_table[..], &outcome.column_table].concat();
+        let mut parity = tables.chunks(LINE_BYTES);
+        assert!(parity.all(|parity| line::correct(&places(parity))));
+        // With 0 they are those of the lines, and repairing again changes
+        // nothing; with 12 the next answer is 12 as well.
+        let mended = Store {
+            lines: outcome.lines.clone(),
+            row_table: outcome.row_table.clone(),
+            column_table: outcome.column_table.clone(),
+            ..store
+        };
+        let mut anew = mended.clone();
+        assert_eq!(anew.tables_anew(), 0);
+        assert_eq!(anew == mended, outcome.answer == 0, "case {case}");
+        let again = mended.repaired(0);
+        let expected = Outcome {
+            passes: 0,
+            marks: vec![0; mended.count()],
+            ..outcome
+        };
+        assert_eq!(again, expected);
     }
 }
 

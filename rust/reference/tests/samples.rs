@@ -5,8 +5,8 @@ use reference::draw::{Outcome, Store, flip};
 use reference::hamming::Named;
 use reference::random::Random;
 use reference::{
-    LINE_BYTES, ReadLine, change_line, check_file, draw, line, make_tables, read_line, repair,
-    storecheck, write_line,
+    LINE_BYTES, ReadLine, change_line, check_file, draw, line, make_tables, read_line, storecheck,
+    write_line,
 };
 
 const ZERO_LINE: [u8; LINE_BYTES] = [0; LINE_BYTES];
@@ -54,6 +54,13 @@ fn expect_zero_store(outcome: &Outcome, marks: [u8; 4], passes: u64) {
     assert_eq!(outcome.passes, passes);
     assert_eq!(outcome.answer, 0);
     assert_eq!(outcome.lines, [0; 4 * LINE_BYTES]);
+    expect_zero_tables(outcome);
+}
+
+/// Both tables are those of the 2 by 2 store of zero lines.
+fn expect_zero_tables(outcome: &Outcome) {
+    assert_eq!(outcome.row_table, [0; 2 * LINE_BYTES]);
+    assert_eq!(outcome.column_table, [0; 2 * LINE_BYTES]);
 }
 
 #[test]
@@ -141,6 +148,7 @@ fn four_lines_alike_are_left() {
     assert_eq!(outcome.marks, [4; 4]);
     assert_eq!((outcome.passes, outcome.answer), (1, 11));
     assert_eq!(outcome.lines, zero_line_hurt(&[0, 1]).repeat(4));
+    expect_zero_tables(&outcome);
 }
 
 #[test]
@@ -151,6 +159,7 @@ fn a_foreign_line_answers_12() {
     assert_eq!(outcome.marks, [0; 4]);
     assert_eq!((outcome.passes, outcome.answer), (0, 12));
     assert_eq!(outcome.lines, store.lines);
+    expect_zero_tables(&outcome);
 }
 
 #[test]
@@ -243,20 +252,11 @@ fn sides_2_and_512_pass_1_and_513_do_not() {
         let fits = answer == 0 || rows.max(columns) <= 513;
         let (r, c) = if fits { (rows, columns) } else { (0, 0) };
         let mut store = Store::zero(r, c);
-        let mut out = vec![0xEE; r * c * LINE_BYTES];
-        let mut marks = vec![0xEE; r * c];
-        let (lines, row_table) = (&store.lines, &store.row_table);
-        let given = repair(
-            rows,
-            columns,
-            lines,
-            row_table,
-            &store.column_table,
-            &mut out,
-            &mut marks,
-        );
+        let mut call = draw::call_on(&mut Random::new(6), store.clone());
+        (call.rows, call.columns) = (rows, columns);
+        let given = call.repaired();
         assert_eq!(
-            (given.answer, given.number),
+            (given.answer, given.passes),
             (answer, 0),
             "{rows} by {columns}"
         );
@@ -281,7 +281,8 @@ fn sides_2_and_512_pass_1_and_513_do_not() {
         );
         assert_eq!((changed.answer, changed.number), (answer, 0));
         if answer == 2 {
-            assert!(out.iter().chain(&marks).all(|&b| b == 0xEE));
+            let before = Outcome::before(&call);
+            assert_eq!(given, Outcome { answer, ..before });
             assert_eq!(store, Store::zero(r, c));
         }
     }
@@ -297,9 +298,14 @@ fn the_greatest_store_passes() {
     }
     store.hurt(7, &[0]);
     store.line_mut(512 * 512 - 2)[69] = 0xFC;
+    // The last row's and the last column's parity lines: one can't be used.
+    store.hurt_row_parity(511, &[3, 4, 5]);
+    store.hurt_column_parity(511, &[3]);
     let outcome = store.repaired(0xEE);
     assert_eq!((outcome.answer, outcome.passes), (0, 1));
-    assert_eq!(outcome.lines, Store::zero(512, 512).lines);
+    let zero = Store::zero(512, 512);
+    assert!(outcome.lines == zero.lines);
+    assert!(outcome.row_table == zero.row_table && outcome.column_table == zero.column_table);
     let count = |mark| outcome.marks.iter().filter(|&&m| m == mark).count();
     assert_eq!([count(1), count(3)], [1, 512]);
     assert_eq!(outcome.marks[512 * 512 - 2], 0);
@@ -378,7 +384,10 @@ fn plausible_mismatch_worked_out_again() {
     let outcome = store.repaired(0xEE);
     assert_eq!(outcome.marks, [2, 3, 3, 0, 0, 0]);
     assert_eq!((outcome.passes, outcome.answer), (1, 0));
-    assert_eq!(outcome.lines, Store::zero(2, 3).lines);
+    let zero = Store::zero(2, 3);
+    assert_eq!(outcome.lines, zero.lines);
+    assert_eq!(outcome.row_table, zero.row_table);
+    assert_eq!(outcome.column_table, zero.column_table);
 }
 
 #[test]
@@ -397,11 +406,13 @@ fn plausible_stopping_early() {
         let outcome = store.repaired(0xEE);
         assert_eq!(outcome.answer, 0);
         assert_eq!(outcome.passes, (side as u64).div_ceil(2));
-        // The lines returned make the tables handed in.
+        // The lines returned make the tables handed in, which come back too.
         let tables = store.clone();
         store.lines = outcome.lines;
         assert_eq!(store.tables_anew(), 0);
         assert_eq!(store.row_table, tables.row_table);
         assert_eq!(store.column_table, tables.column_table);
+        assert_eq!(outcome.row_table, tables.row_table);
+        assert_eq!(outcome.column_table, tables.column_table);
     }
 }

@@ -1,5 +1,6 @@
 //! Repair as it was before request Q-1, stated anew: mark 0 was an accepted
 //! line whose protected word was untouched, mark 1 one accepted after a flip.
+//! Parity lines are taken as request Q-3 has them.
 
 use reference::code::LineCode;
 use reference::draw::{Outcome, Store};
@@ -9,12 +10,9 @@ use reference::{DATA_BYTES, LINE_BYTES};
 
 const FAULTY: u8 = 4;
 
-/// What repair gave for this store; none if it refused a parity line, with 9.
-pub fn repaired(store: &Store) -> Option<Outcome> {
+/// What repair gave for this store.
+pub fn repaired(store: &Store) -> Outcome {
     let groups = groups(store);
-    if !groups.iter().all(|group| line::correct(&group.parity)) {
-        return None;
-    }
     let (lines, marks) = all_places(&store.lines).iter().map(read_alone).unzip();
     let mut held = Held { lines, marks };
     let mut passes = 0;
@@ -23,21 +21,28 @@ pub fn repaired(store: &Store) -> Option<Outcome> {
     while (1..before).contains(&held.faulty()) {
         before = held.faulty();
         passes += 1;
-        groups.iter().for_each(|group| held.visit(group));
+        let usable = groups.iter().filter(|group| group.usable);
+        usable.for_each(|group| held.visit(group));
     }
-    let agrees = |group: &Group| held.sum(&group.members) == group.parity;
+    let agrees = |group: &Group| !group.usable || held.sum(&group.members) == group.parity;
     let answer = match held.faulty() {
         0 if groups.iter().all(agrees) => 0,
         0 => 12,
         _ => 11,
     };
-    Some(Outcome {
+    let handed_over = |group: &Group| match answer {
+        0 | 12 if !group.usable => line::bytes(&held.sum(&group.members)),
+        _ => line::bytes(&group.parity),
+    };
+    let (of_rows, of_columns) = groups.split_at(store.rows);
+    Outcome {
         answer,
         passes,
-        number: 0,
         lines: held.lines.iter().flat_map(line::bytes).collect(),
+        row_table: of_rows.iter().flat_map(handed_over).collect(),
+        column_table: of_columns.iter().flat_map(handed_over).collect(),
         marks: held.marks,
-    })
+    }
 }
 
 /// Reading alone.
@@ -65,10 +70,12 @@ fn afresh(line: &Line) -> Line {
     line::written(&data)
 }
 
-/// A row or a column: the numbers of its lines, rising, and its parity line.
+/// A row or a column: the numbers of its lines, rising, its parity line as it
+/// reads alone, and whether that was accepted.
 struct Group {
     members: Vec<usize>,
     parity: Line,
+    usable: bool,
 }
 
 /// All rows, then all columns.
@@ -82,10 +89,15 @@ fn groups(store: &Store) -> Vec<Group> {
     let parity = all_places(&store.row_table)
         .into_iter()
         .chain(all_places(&store.column_table));
-    members
-        .zip(parity)
-        .map(|(members, parity)| Group { members, parity })
-        .collect()
+    let group = |(members, found): (Vec<usize>, Line)| {
+        let (parity, mark) = read_alone(&found);
+        Group {
+            members,
+            parity,
+            usable: mark != FAULTY,
+        }
+    };
+    members.zip(parity).map(group).collect()
 }
 
 fn all_places(bytes: &[u8]) -> Vec<Line> {

@@ -1,45 +1,30 @@
-//! What request Q-2 says of bad parity lines: 13 with the first bad row, or
-//! else 14 with the first bad column, stand in 9's place. A change tests its own
-//! row and column alone. With every other answer the number is 0.
+//! What request Q-2 says of bad parity lines, as far as request Q-3 left it: a
+//! change answers 13 with its row, or else 14 with its column, in 9's place.
+//! With every other answer the number is 0.
 //!
 //! Everything here takes what an implementation gives, so that the tests of
-//! the library and of the peer use it too.
+//! the library use it too.
 
 use reference::draw::{self, Call, Store, call_on, flip};
 use reference::line::{SPARE, bytes, correct, exclusive_or, places};
 use reference::random::Random;
 use reference::{DATA_BYTES, LINE_BYTES, PLACES, write_line};
 
-/// What a call gives: its answer, the number of a row or column, the passes (0
-/// for a change), and all that was handed in, as it is after.
+/// What a change gives: its answer, the number of a row or column, and all that
+/// was handed in, as it is after.
 #[derive(Clone, Debug, PartialEq, Eq)]
 pub struct Given {
     pub answer: u32,
     pub number: u64,
-    pub passes: u64,
     pub after: Call,
 }
 
-/// A refusal: nothing is written, and no pass is made.
+/// A refusal: nothing is written.
 fn refused(call: &Call, (answer, number): (u32, usize)) -> Given {
     Given {
         answer,
         number: number as u64,
-        passes: 0,
         after: call.clone(),
-    }
-}
-
-/// Repair of correct lines that agree with their tables, spare bits 0.
-fn repaired(call: &Call) -> Given {
-    let mut after = call.clone();
-    after.out.clone_from(&call.lines);
-    after.marks.fill(0);
-    Given {
-        answer: 0,
-        number: 0,
-        passes: 0,
-        after,
     }
 }
 
@@ -66,7 +51,6 @@ fn changed(call: &Call) -> Given {
     Given {
         answer: 0,
         number: 0,
-        passes: 0,
         after,
     }
 }
@@ -76,10 +60,10 @@ fn line_of(bytes: &[u8], n: usize) -> &[u8] {
     &bytes[n * LINE_BYTES..][..LINE_BYTES]
 }
 
-/// A call gave this, to every byte.
+/// A change gave this, to every byte.
 #[track_caller]
 fn expect(given: &Given, expected: &Given, what: &str) {
-    let numbers = |of: &Given| (of.answer, of.number, of.passes);
+    let numbers = |of: &Given| (of.answer, of.number);
     assert_eq!(numbers(given), numbers(expected), "{what}");
     assert!(given.after == expected.after, "{what}: other bytes");
 }
@@ -87,15 +71,15 @@ fn expect(given: &Given, expected: &Given, what: &str) {
 /// A store of correct lines with their tables, in which just these rows' and
 /// columns' parity lines are bad; both rise.
 pub struct Spoilt {
-    store: Store,
+    pub store: Store,
     rows: Vec<usize>,
     columns: Vec<usize>,
 }
 
 impl Spoilt {
-    /// These parity lines of a store are hurt, each at places that are drawn for
-    /// it. Correct lines differ in eight places or more, so one to seven make
-    /// it bad.
+    /// These parity lines of a store are hurt, each at one to six places that
+    /// are drawn for it. Correct lines differ in eight places or more, so that
+    /// makes it bad, and it doesn't read as another line either.
     fn new(
         written: &Store,
         rows: Vec<usize>,
@@ -116,32 +100,24 @@ impl Spoilt {
         }
     }
 
-    fn call(&self) -> Call {
-        call_on(&mut Random::new(2), self.store.clone())
-    }
-
     fn name(&self) -> String {
         let sides = (self.store.rows, self.store.columns);
         let (rows, columns) = (&self.rows, &self.columns);
         format!("sides {sides:?}, bad rows {rows:?}, bad columns {columns:?}")
     }
 
-    /// Repair tests all rows, then all columns, and gives the first bad one.
-    pub fn expect_repair(&self, repair: impl Fn(&Call) -> Given) {
-        let call = self.call();
-        let expected = match (self.rows.first(), self.columns.first()) {
-            (Some(&row), _) => refused(&call, (13, row)),
-            (None, Some(&column)) => refused(&call, (14, column)),
-            (None, None) => repaired(&call),
-        };
-        expect(&repair(&call), &expected, &self.name());
-    }
-
     /// A change tests its own row, then its own column, and no other.
     pub fn expect_changes(&self, change: impl Fn(&Call) -> Given) {
-        let mut call = self.call();
+        let mut call = call_on(&mut Random::new(2), self.store.clone());
         // Repair's buffers, which a change doesn't take.
-        (call.out, call.marks) = (vec![], vec![]);
+        for buffer in [
+            &mut call.out,
+            &mut call.marks,
+            &mut call.row_out,
+            &mut call.column_out,
+        ] {
+            buffer.clear();
+        }
         for n in self.lines_to_change() {
             call.n = n;
             let (row, column) = (n / self.store.columns, n % self.store.columns);
@@ -185,7 +161,7 @@ pub fn every_set() -> impl Iterator<Item = Spoilt> {
                 let set = |bits: usize, side| (0..side).filter(|i| bits >> i & 1 == 1).collect();
                 let (bad_rows, bad_columns) = (set(bits, rows), set(bits >> rows, columns));
                 Spoilt::new(&written, bad_rows, bad_columns, || {
-                    let count = random.between(1, 7);
+                    let count = random.between(1, 6);
                     draw::places(&mut random, count)
                 })
             })
@@ -250,19 +226,19 @@ pub fn large(side: usize) -> impl Iterator<Item = Spoilt> {
         })
 }
 
-/// A call, and the answer and the number that it gives.
-pub type Case = (Call, u32, u64);
+/// A call, and the answer that it gives.
+pub type Case = (Call, u32);
 
 /// A call given ever more to be refused for, from the last of the list up: each
 /// time that is what it is refused for.
-struct Ladder {
+pub struct Ladder {
     call: Call,
-    cases: Vec<Case>,
+    pub cases: Vec<Case>,
 }
 
 impl Ladder {
     /// Begins with a 3 by 4 store, line 6, and nothing wrong.
-    fn new() -> Ladder {
+    pub fn new() -> Ladder {
         let store = Store::random(&mut Random::new(16), 3, 4);
         let mut call = call_on(&mut Random::new(17), store);
         call.n = 6;
@@ -270,99 +246,53 @@ impl Ladder {
             call,
             cases: vec![],
         };
-        ladder.step(0, 0, |_| {});
+        ladder.step(0, |_| {});
         ladder
     }
 
-    fn step(&mut self, answer: u32, number: u64, spoil: impl Fn(&mut Call)) {
+    pub fn step(&mut self, answer: u32, spoil: impl Fn(&mut Call)) {
         spoil(&mut self.call);
-        self.cases.push((self.call.clone(), answer, number));
+        self.cases.push((self.call.clone(), answer));
     }
 
-    /// Line 6 stands in row 1 and column 2; so do the bad parity lines.
-    fn bad_parity(&mut self) {
-        self.step(14, 2, |call| flip(&mut call.column_table[140..], &[543]));
-        self.step(13, 1, |call| flip(&mut call.row_table[70..], &[543]));
-    }
-
-    fn wrong_sizes(&mut self) {
-        self.step(6, 0, |call| call.column_table.truncate(279));
-        self.step(6, 0, |call| call.row_table.push(0));
-        self.step(5, 0, |call| call.lines.truncate(839));
-        self.step(2, 0, |call| call.columns = 1);
-        self.step(2, 0, |call| call.rows = 513);
+    /// The refusals 6, 5 and 2 of all that is read.
+    pub fn wrong_sizes(&mut self) {
+        self.step(6, |call| call.column_table.truncate(279));
+        self.step(6, |call| call.row_table.push(0));
+        self.step(5, |call| call.lines.truncate(839));
+        self.step(2, |call| call.columns = 1);
+        self.step(2, |call| call.rows = 513);
     }
 }
 
 /// Changes for every answer; whatever fits later in the list is wrong too.
 pub fn changes_in_order() -> Vec<Case> {
     let mut ladder = Ladder::new();
-    ladder.step(10, 0, |call| flip(&mut call.lines[6 * 70..], &[0, 1]));
-    ladder.bad_parity();
-    ladder.step(8, 0, |call| call.n = 12);
-    ladder.step(8, 0, |call| call.n = usize::MAX);
-    ladder.step(7, 0, |call| call.data.truncate(63));
+    ladder.step(10, |call| flip(&mut call.lines[6 * 70..], &[0, 1]));
+    // Line 6 stands in row 1 and column 2.
+    ladder.step(14, |call| flip(&mut call.column_table[140..], &[543]));
+    ladder.step(13, |call| flip(&mut call.row_table[70..], &[543]));
+    ladder.step(8, |call| call.n = 12);
+    ladder.step(8, |call| call.n = usize::MAX);
+    ladder.step(7, |call| call.data.truncate(63));
     ladder.wrong_sizes();
     ladder.cases
 }
 
-/// Repairs for every answer, likewise.
-pub fn repairs_in_order() -> Vec<Case> {
-    let mut ladder = Ladder::new();
-    // Line 11 is a correct line, but not the one written.
-    ladder.step(12, 0, |call| {
-        let line = line_of(&call.lines, 11);
-        let mut data = [0; DATA_BYTES];
-        data.copy_from_slice(&line[..DATA_BYTES]);
-        data[0] ^= 1;
-        write_line(&data, &mut call.lines[11 * 70..]);
-    });
-    // Four lines of two rows and two columns, hurt alike.
-    ladder.step(11, 0, |call| {
-        for n in [0, 1, 4, 5] {
-            flip(&mut call.lines[n * 70..], &[0, 1]);
-        }
-    });
-    ladder.bad_parity();
-    ladder.step(7, 0, |call| call.marks.push(0));
-    ladder.step(7, 0, |call| call.out.truncate(839));
-    ladder.wrong_sizes();
-    ladder.cases
-}
-
-/// These calls give their answers and numbers; a refusal writes nothing.
-pub fn expect_cases(cases: &[Case], make: impl Fn(&Call) -> Given) {
-    for (call, answer, number) in cases {
-        let given = make(call);
-        assert_eq!((given.answer, given.number), (*answer, *number));
-        if ![0, 11, 12].contains(answer) {
-            assert_eq!(given.passes, 0, "answer {answer}");
-            assert!(given.after == *call, "answer {answer}: other bytes");
-        }
+/// These changes of line 6 give their answers, 13 and 14 with the line's row and
+/// column; a refusal writes nothing.
+pub fn expect_cases(cases: &[Case], change: impl Fn(&Call) -> Given) {
+    for (call, answer) in cases {
+        let number = match answer {
+            13 => 1,
+            14 => 2,
+            _ => 0,
+        };
+        let given = change(call);
+        assert_eq!((given.answer, given.number), (*answer, number));
+        let written = given.after != *call;
+        assert_eq!(written, *answer == 0, "answer {answer}: other bytes");
     }
-}
-
-/// 2 by 2 stores and their reports: of a bad parity line the answer alone.
-pub fn reports() -> Vec<(Store, &'static str)> {
-    let stores: [(&[usize], &[usize], _); 7] = [
-        (&[0], &[], "answer 13\n"),
-        (&[1], &[], "answer 13\n"),
-        (&[], &[0], "answer 14\n"),
-        (&[], &[1], "answer 14\n"),
-        (&[0, 1], &[0, 1], "answer 13\n"),
-        (&[1], &[0], "answer 13\n"),
-        (&[], &[0, 1], "answer 14\n"),
-    ];
-    let zero = Store::zero(2, 2);
-    stores
-        .map(|(rows, columns, report)| {
-            let places = || vec![542];
-            let mut spoilt = Spoilt::new(&zero, rows.to_vec(), columns.to_vec(), places);
-            // Lines are not looked at before the parity lines.
-            (0..4).for_each(|n| spoilt.store.hurt(n, &[0, 1]));
-            (spoilt.store, report)
-        })
-        .into()
 }
 
 /// A drawn call, right or wrong, often with bad parity lines.
@@ -370,7 +300,7 @@ pub fn drawn_call(random: &mut Random, most: usize) -> Call {
     let mut call = draw::call(random, most);
     if random.once_in(2) {
         for _ in 0..random.between(1, 4) {
-            let count = random.between(1, 7);
+            let count = random.between(1, 8);
             let places = draw::places(random, count);
             let table = if random.once_in(2) {
                 &mut call.row_table
@@ -402,23 +332,6 @@ fn is_bad(table: &[u8], n: usize) -> bool {
     !correct(&places(line_of(table, n)))
 }
 
-/// What a drawn repair gave, by the request's words.
-pub fn check_repair(call: &Call, given: &Given) {
-    let (rows, columns) = (call.rows, call.columns);
-    let due = sizes_fit(call)
-        && call.out.len() == rows * columns * LINE_BYTES
-        && call.marks.len() == rows * columns;
-    let mut bad = None;
-    if due {
-        let row = (0..rows).find(|&row| is_bad(&call.row_table, row));
-        let column = (0..columns).find(|&column| is_bad(&call.column_table, column));
-        bad = row
-            .map(|row| (13, row))
-            .or(column.map(|column| (14, column)));
-    }
-    check(call, given, bad);
-}
-
 /// What a drawn change gave, by the request's words.
 pub fn check_change(call: &Call, given: &Given) {
     let due = sizes_fit(call) && call.data.len() == DATA_BYTES && call.n < call.rows * call.columns;
@@ -431,10 +344,6 @@ pub fn check_change(call: &Call, given: &Given) {
             bad = Some((14, column));
         }
     }
-    check(call, given, bad);
-}
-
-fn check(call: &Call, given: &Given, bad: Option<(u32, usize)>) {
     if let Some(bad) = bad {
         expect(given, &refused(call, bad), "a bad parity line");
         return;
@@ -444,7 +353,7 @@ fn check(call: &Call, given: &Given, bad: Option<(u32, usize)>) {
     assert_eq!(given.number, 0, "answer {answer}");
 }
 
-/// How often drawn calls gave 13 and 14, for row or column 0 and for others.
+/// How often drawn changes gave 13 and 14, for row or column 0 and for others.
 #[derive(Debug, Default)]
 pub struct Seen {
     rows: [usize; 2],
