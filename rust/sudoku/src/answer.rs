@@ -23,25 +23,25 @@ pub enum Answer {
     /// 5: the lines handed in aren't rows × columns × 70 bytes, or a single
     /// line isn't 70 bytes.
     Lines,
-    /// 6: a table isn't 70 bytes for each of its rows or columns.
+    /// 6: a table, read or written, isn't 70 bytes for each of its rows or
+    /// columns.
     Table,
     /// 7: another buffer, or the data, has another length than it should.
     Buffer,
     /// 8: the line number isn't below rows × columns.
     Number,
-    /// 13: a row's parity line isn't a correct line. The row table has to be
-    /// loaded anew; the column table may be bad too.
+    /// 13: in a change, the parity line of the line's row isn't a correct line;
+    /// that of its column may be bad too. The store has to be repaired, or the
+    /// row table loaded anew.
     RowParity {
-        /// The row, counted from 0: of a repair the first that is bad, of a
-        /// change the line's own.
+        /// The line's row, counted from 0.
         row: usize,
     },
-    /// 14: a column's parity line isn't a correct line, while those of all
-    /// rows (of a change, that of the line's own row) are. The column table
-    /// has to be loaded anew.
+    /// 14: in a change, the parity line of the line's column isn't a correct
+    /// line, while that of its row is. The store has to be repaired, or the
+    /// column table loaded anew.
     ColumnParity {
-        /// The column, counted from 0: of a repair the first that is bad, of a
-        /// change the line's own.
+        /// The line's column, counted from 0.
         column: usize,
     },
     /// 10: a line to be read alone, changed or summed into tables is faulty.
@@ -49,9 +49,9 @@ pub enum Answer {
     /// 11: faulty lines are left after the last pass of a repair. They are
     /// given as found.
     Left,
-    /// 12: no line is faulty, but some parity line differs from that of the
-    /// repaired lines. Trust no line: some may be wrong, and nothing tells
-    /// which.
+    /// 12: no line is faulty, but some parity line that was accepted differs
+    /// from that of the repaired lines. Trust no line: some may be wrong, and
+    /// nothing tells which.
     Differs,
     /// A number that this crate doesn't know.
     Other(u32),
@@ -139,18 +139,20 @@ impl fmt::Display for Answer {
             Answer::RowParity { row } => {
                 return write!(
                     f,
-                    "the parity line of row {row} is not a correct line: reload the row table"
+                    "the parity line of row {row} is not a correct line: repair the store or reload \
+                     the row table"
                 );
             }
             Answer::ColumnParity { column } => {
                 return write!(
                     f,
-                    "the parity line of column {column} is not a correct line: reload the column table"
+                    "the parity line of column {column} is not a correct line: repair the store or \
+                     reload the column table"
                 );
             }
             Answer::Faulty => "a line is faulty",
             Answer::Left => "faulty lines are left",
-            Answer::Differs => "a parity line differs from the repaired lines",
+            Answer::Differs => "an accepted parity line differs from the repaired lines",
             Answer::Other(number) => return write!(f, "unknown answer {number}"),
         };
         f.write_str(words)

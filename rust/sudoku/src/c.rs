@@ -54,8 +54,11 @@ mod declared {
             out_len: usize,
             marks: *mut u8,
             marks_len: usize,
+            row_out: *mut u8,
+            row_out_len: usize,
+            column_out: *mut u8,
+            column_out_len: usize,
             passes: *mut u64,
-            number: *mut u64,
         ) -> u32;
     }
 }
@@ -142,18 +145,28 @@ pub fn change_line(
     (answer, number)
 }
 
-/// Repairs a rectangle; gives the answer, the passes, and the number of the
-/// first row or column whose parity line is bad, otherwise 0.
+/// The buffers that repair writes, each of any length.
+pub struct Out<'a> {
+    /// The lines: C's `out`.
+    pub lines: &'a mut [u8],
+    /// A mark for each line: C's `marks`.
+    pub marks: &'a mut [u8],
+    /// The parity lines of the rows: C's `row_out`.
+    pub row_table: &'a mut [u8],
+    /// The parity lines of the columns: C's `column_out`.
+    pub column_table: &'a mut [u8],
+}
+
+/// Repairs a rectangle; gives the answer and the passes.
 pub fn repair(
     rows: usize,
     columns: usize,
     lines: &[u8],
     row_table: &[u8],
     column_table: &[u8],
-    out: &mut [u8],
-    marks: &mut [u8],
-) -> (u32, u64, u64) {
-    let (mut passes, mut number) = (u64::MAX, u64::MAX);
+    out: Out,
+) -> (u32, u64) {
+    let mut passes = u64::MAX;
     // SAFETY: see above.
     let answer = unsafe {
         declared::sudoku_repair(
@@ -165,13 +178,16 @@ pub fn repair(
             row_table.len(),
             column_table.as_ptr(),
             column_table.len(),
-            out.as_mut_ptr(),
-            out.len(),
-            marks.as_mut_ptr(),
-            marks.len(),
+            out.lines.as_mut_ptr(),
+            out.lines.len(),
+            out.marks.as_mut_ptr(),
+            out.marks.len(),
+            out.row_table.as_mut_ptr(),
+            out.row_table.len(),
+            out.column_table.as_mut_ptr(),
+            out.column_table.len(),
             &mut passes,
-            &mut number,
         )
     };
-    (answer, passes, number)
+    (answer, passes)
 }

@@ -3,13 +3,14 @@
 //! A caption is 64 bytes of data and stands in a line of 70 bytes: the data, a
 //! 31-bit check and ten bits that find one damaged bit, the Hamming bits. A
 //! [`Store`] holds rows × columns of such lines and a parity line for each row
-//! and column, and [`Store::repair`] mends damaged lines from these. The work
-//! is done by the static library `libcapi.a`, whose functions are proved to
-//! follow the store's rules; this crate is a safe way to call it.
+//! and column, and [`Store::repair`] mends damaged lines from these, and the
+//! parity lines from the lines. The work is done by the static library
+//! `libcapi.a`, whose functions are proved to follow the store's rules; this
+//! crate is a safe way to call it.
 //!
 //! Nothing here panics on bad input: what is refused comes back as an
-//! [`Answer`]. Calls keep no state, so threads may call at once; making tables
-//! and repair need about 110 kB of a thread's stack.
+//! [`Answer`]. Calls keep no state, so threads may call at once; repair needs
+//! less than 48 kB of a thread's stack, making tables about 110 kB.
 //!
 //! ```
 //! use sudoku::{Mark, Store};
@@ -23,7 +24,7 @@
 //! assert!(store.read(3)?.is_faulty());
 //!
 //! // Repair rebuilds it from its row.
-//! let repaired = store.repair()?;
+//! let repaired = store.repair();
 //! assert_eq!(repaired.marks[3], Mark::Rebuilt);
 //! assert_eq!(repaired.store.read(3)?.data(), captions[3]);
 //! # Ok::<(), sudoku::Answer>(())
@@ -32,18 +33,20 @@
 //! # What to know
 //!
 //! - After [`Answer::Left`] the lines marked [`Mark::Faulty`] are damaged, as
-//!   found.
+//!   found, and so are the parity lines that weren't accepted.
 //! - After [`Answer::Differs`] trust no line: none is faulty, but some parity
-//!   line disagrees. Some line may be wrong, and nothing tells which.
-//! - After [`Answer::Done`] the lines of a repair are those written, if both
-//!   tables are undamaged and no line had more than five damaged bits. The
+//!   line that was accepted disagrees. Some line may be wrong, and nothing tells
+//!   which.
+//! - After [`Answer::Done`] lines and tables of a repair are those written, if
+//!   no line and no parity line had more than five damaged bits. The
 //!   repository's README says what holds beyond that.
 //! - Lines and tables of zero bytes are a valid store, the one that
 //!   [`Store::new`] gives: cleared memory can't be told from empty captions.
-//! - After [`Answer::RowParity`] or [`Answer::ColumnParity`] that table is bad
-//!   and has to be loaded anew ([`Store::row_table_mut`],
-//!   [`Store::column_table_mut`]). After the first the column table may be bad
-//!   too, since rows are answered for first.
+//! - After [`Answer::RowParity`] or [`Answer::ColumnParity`], which only a change
+//!   gives, a parity line of that table is damaged. Repair makes it whole if no
+//!   line stays faulty; or the table has to be loaded anew
+//!   ([`Store::row_table_mut`], [`Store::column_table_mut`]). After the first
+//!   the column's may be bad too, since the row is answered for first.
 //! - A refused call leaves the store as it was.
 //!
 //! # Linking

@@ -26,7 +26,9 @@ pub struct Repaired {
     pub answer: Answer,
     /// The passes over rows and columns: 0 if every line read alone.
     pub passes: u64,
-    /// The store with its lines as repaired, and its tables as they were.
+    /// The store with its lines and both tables as repair hands them over. Of
+    /// the parity lines, those accepted are as read; the others are as found
+    /// after [`Answer::Left`], and otherwise made afresh.
     pub store: Store,
     /// What happened to each line.
     pub marks: Vec<Mark>,
@@ -247,7 +249,10 @@ impl Store {
         Answer::from_numbers(answer, number).done()
     }
 
-    /// Repairs the lines; this store stays as it is.
+    /// Repairs lines and tables; this store stays as it is.
+    ///
+    /// Every parity line is read alone first. One that is faulty can't help to
+    /// mend lines; it is made afresh if no line is left faulty.
     ///
     /// Lines that stay faulty ([`Answer::Left`]) and lines that don't agree
     /// with the tables ([`Answer::Differs`]) are no errors here: the answer
@@ -255,57 +260,53 @@ impl Store {
     ///
     /// ```
     /// use sudoku::{Answer, Mark, Store};
-    /// let mut store = Store::new(2, 2)?;
-    /// for n in 0..4 {
-    ///     store.lines_mut()[n * 70] ^= 3;
-    /// }
-    /// let repaired = store.repair()?;
-    /// assert_eq!(repaired.answer, Answer::Left);
-    /// assert_eq!(repaired.marks, [Mark::Faulty; 4]);
+    /// let written = Store::new(2, 2)?;
     ///
-    /// // A bad parity line: the answer says which table to load anew.
-    /// store.column_table_mut()[70] ^= 3;
-    /// let refused = store.repair().unwrap_err();
-    /// assert_eq!(refused, Answer::ColumnParity { column: 1 });
-    /// assert_eq!(
-    ///     refused.to_string(),
-    ///     "the parity line of column 1 is not a correct line: reload the column table"
-    /// );
+    /// // Line 0 and its row's parity line are hurt: its column mends the line,
+    /// // and the parity line is made afresh.
+    /// let mut store = written.clone();
+    /// store.lines_mut()[0] ^= 3;
+    /// store.row_table_mut()[0] ^= 3;
+    /// let repaired = store.repair();
+    /// assert_eq!(repaired.answer, Answer::Done);
+    /// assert_eq!(repaired.marks[0], Mark::Rebuilt);
+    /// assert_eq!(repaired.store, written);
+    ///
+    /// // With its column's parity line hurt too, nothing can mend the line.
+    /// store.column_table_mut()[0] ^= 3;
+    /// let repaired = store.repair();
+    /// assert_eq!(repaired.answer, Answer::Left);
+    /// assert_eq!(repaired.marks[0], Mark::Faulty);
+    /// assert_eq!(repaired.store, store);
     /// # Ok::<(), Answer>(())
     /// ```
-    ///
-    /// # Errors
-    ///
-    /// [`Answer::RowParity`] if some row's parity line isn't a correct line,
-    /// with the first such row; [`Answer::ColumnParity`] likewise if all rows'
-    /// are correct and some column's isn't.
-    pub fn repair(&self) -> Result<Repaired, Answer> {
-        let mut lines = vec![0; self.lines.len()];
+    pub fn repair(&self) -> Repaired {
+        let mut store = Store {
+            lines: vec![0; self.lines.len()],
+            row_table: vec![0; self.row_table.len()],
+            column_table: vec![0; self.column_table.len()],
+            ..*self
+        };
         let mut marks = vec![0; self.count()];
-        let (answer, passes, number) = c::repair(
+        // With these sides and lengths the answer is 0, 11 or 12.
+        let (answer, passes) = c::repair(
             self.rows,
             self.columns,
             &self.lines,
             &self.row_table,
             &self.column_table,
-            &mut lines,
-            &mut marks,
+            c::Out {
+                lines: &mut store.lines,
+                marks: &mut marks,
+                row_table: &mut store.row_table,
+                column_table: &mut store.column_table,
+            },
         );
-        let answer = Answer::from_numbers(answer, number);
-        if !matches!(answer, Answer::Done | Answer::Left | Answer::Differs) {
-            return Err(answer);
-        }
-        let store = Store {
-            lines,
-            row_table: self.row_table.clone(),
-            column_table: self.column_table.clone(),
-            ..*self
-        };
-        Ok(Repaired {
-            answer,
+        Repaired {
+            answer: Answer::from_numbers(answer, 0),
             passes,
             store,
             marks: marks.into_iter().map(Mark::from_number).collect(),
-        })
+        }
     }
 }

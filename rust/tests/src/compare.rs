@@ -1,6 +1,7 @@
 //! One call made to both implementations, and all that it gives compared.
 
 use reference::draw::Call;
+use sudoku::c::Out;
 
 use crate::{Guarded, Interface, Library, Reference};
 
@@ -36,7 +37,7 @@ impl Entry {
             Entry::Read => &[0, 5, 7, 10],
             Entry::Tables => &[0, 2, 5, 6, 10],
             Entry::Change => &[0, 2, 5, 6, 7, 8, 13, 14, 10],
-            Entry::Repair => &[0, 2, 5, 6, 7, 13, 14, 11, 12],
+            Entry::Repair => &[0, 2, 5, 6, 7, 11, 12],
         }
     }
 }
@@ -66,7 +67,11 @@ fn buffers(entry: Entry, call: &Call) -> (Vec<&[u8]>, usize) {
         Entry::Read => (vec![&call.line_out, &call.line], 1),
         Entry::Tables => (vec![rows, columns, lines], 2),
         Entry::Change => (vec![lines, rows, columns, &call.data], 3),
-        Entry::Repair => (vec![&call.out, &call.marks, lines, rows, columns], 2),
+        Entry::Repair => {
+            let (row_out, column_out) = (&call.row_out, &call.column_out);
+            let written: [&[u8]; 4] = [&call.out, &call.marks, row_out, column_out];
+            ([&written[..], &[lines, rows, columns]].concat(), 4)
+        }
     }
 }
 
@@ -88,8 +93,15 @@ fn make(entry: Entry, call: &Call, on: &dyn Interface, buffers: &mut [&mut [u8]]
                 on.change_line(rows, columns, lines, of_rows, of_columns, call.n, data);
             (answer, 0, number)
         }
-        (Entry::Repair, [out, marks, lines, of_rows, of_columns]) => {
-            on.repair(rows, columns, lines, of_rows, of_columns, out, marks)
+        (Entry::Repair, [out, marks, row_out, column_out, lines, of_rows, of_columns]) => {
+            let out = Out {
+                lines: out,
+                marks,
+                row_table: row_out,
+                column_table: column_out,
+            };
+            let (answer, passes) = on.repair(rows, columns, lines, of_rows, of_columns, out);
+            (answer, passes, 0)
         }
         _ => panic!("{entry:?} has other buffers"),
     };

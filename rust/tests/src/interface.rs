@@ -1,5 +1,7 @@
 //! The library and the second implementation, called alike.
 
+use sudoku::c::Out;
+
 /// The five entry points over slices; each gives its answer first.
 pub trait Interface {
     /// What failures are told by.
@@ -34,8 +36,7 @@ pub trait Interface {
         data: &[u8],
     ) -> (u32, u64);
 
-    /// Repairs; gives the passes and the number of a bad row or column too.
-    #[allow(clippy::too_many_arguments)]
+    /// Repairs; gives the passes too.
     fn repair(
         &self,
         rows: usize,
@@ -43,9 +44,8 @@ pub trait Interface {
         lines: &[u8],
         row_table: &[u8],
         column_table: &[u8],
-        out: &mut [u8],
-        marks: &mut [u8],
-    ) -> (u32, u64, u64);
+        out: Out,
+    ) -> (u32, u64);
 }
 
 /// Both implementations, for tests that each has to pass.
@@ -100,10 +100,9 @@ impl Interface for Library {
         lines: &[u8],
         row_table: &[u8],
         column_table: &[u8],
-        out: &mut [u8],
-        marks: &mut [u8],
-    ) -> (u32, u64, u64) {
-        sudoku::c::repair(rows, columns, lines, row_table, column_table, out, marks)
+        out: Out,
+    ) -> (u32, u64) {
+        sudoku::c::repair(rows, columns, lines, row_table, column_table, out)
     }
 }
 
@@ -156,10 +155,15 @@ impl Interface for Reference {
         lines: &[u8],
         row_table: &[u8],
         column_table: &[u8],
-        out: &mut [u8],
-        marks: &mut [u8],
-    ) -> (u32, u64, u64) {
-        let given = reference::repair(rows, columns, lines, row_table, column_table, out, marks);
-        (given.answer, given.passes, given.number)
+        out: Out,
+    ) -> (u32, u64) {
+        let out = reference::Out {
+            lines: out.lines,
+            marks: out.marks,
+            row_table: out.row_table,
+            column_table: out.column_table,
+        };
+        let given = reference::repair(rows, columns, lines, row_table, column_table, out);
+        (given.answer, given.passes)
     }
 }

@@ -6,14 +6,26 @@ use reference::draw::{self, Outcome, Store};
 use reference::random::Random;
 use reference::{LINE_BYTES, PLACES, PROTECTED_PLACES};
 
-use crate::samples::{self, FILLING};
+use crate::parity::q3::cases::{EIGHT, some_of_eight};
+use crate::samples;
 
-/// Repairs a store whose parity lines are correct with the library; gives
-/// answer, passes, lines and marks.
-fn repaired(store: &Store) -> (u32, u64, Vec<u8>, Vec<u8>) {
-    let given = samples::repaired(&Library, store);
-    assert_eq!(given.number, 0);
-    (given.answer, given.passes, given.lines, given.marks)
+/// Repairs a store with the library.
+fn repaired(store: &Store) -> Outcome {
+    samples::repaired(&Library, store)
+}
+
+/// Lines and tables are exactly those of this store.
+fn expect_bytes(given: &Outcome, expected: &Store, case: usize) {
+    assert!(given.lines == expected.lines, "case {case}");
+    assert!(given.row_table == expected.row_table, "case {case}");
+    assert!(given.column_table == expected.column_table, "case {case}");
+}
+
+/// Whether some parity line of a store is faulty.
+fn has_unusable(store: &Store) -> bool {
+    let tables = [&store.row_table[..], &store.column_table].concat();
+    let mut parity = tables.chunks(LINE_BYTES);
+    parity.any(|parity| samples::read(&Library, parity).2 != 0)
 }
 
 #[test]
@@ -23,26 +35,29 @@ fn demand_3_returns_exactly_the_rectangle_written() {
     let mut by_mark = [0; 5];
     let mut longest = 0;
     let mut most_passes = 0;
+    let mut unusable = 0;
     for case in 0..count {
         let (rows, columns) = draw::sides(&mut random, 2 + case % 9);
         let wanted = random.below(2 * (rows + columns));
         let drawn = draw::ordered(&mut random, rows, columns, wanted);
         assert!(draw::order_fits(&drawn.written, &drawn.hurt, &drawn.order));
-        let (answer, passes, lines, marks) = repaired(&drawn.hurt);
-        assert_eq!(answer, 0, "case {case}");
-        assert!(lines == drawn.written.lines, "case {case}");
-        assert!(passes <= drawn.order.len() as u64, "case {case}");
-        for mark in marks {
+        let given = repaired(&drawn.hurt);
+        assert_eq!(given.answer, 0, "case {case}");
+        expect_bytes(&given, &drawn.written, case);
+        assert!(given.passes <= drawn.order.len() as u64, "case {case}");
+        for &mark in &given.marks {
             by_mark[usize::from(mark)] += 1;
         }
         longest = longest.max(drawn.order.len());
-        most_passes = most_passes.max(passes);
+        most_passes = most_passes.max(given.passes);
+        unusable += usize::from(has_unusable(&drawn.hurt));
     }
     println!(
-        "demand 3: {count} cases, lines by mark {by_mark:?}, longest order {longest}, \
-         most passes {most_passes}"
+        "demand 3: {count} cases, {unusable} of them with unusable groups, \
+         lines by mark {by_mark:?}, longest order {longest}, most passes {most_passes}"
     );
     assert_eq!(by_mark[4], 0);
+    assert!(unusable > count / 10);
 }
 
 #[test]
@@ -58,21 +73,10 @@ fn demand_3_on_long_orders() {
                 hurt.hurt(n, &[2 * i, 2 * i + 1 + j]);
             }
         }
-        let (answer, passes, lines, _) = repaired(&hurt);
-        assert_eq!((answer, passes), (0, 1));
-        assert!(lines == written.lines);
+        let given = repaired(&hurt);
+        assert_eq!((given.answer, given.passes), (0, 1));
+        expect_bytes(&given, &written, side);
     }
-}
-
-/// Places that, set alone, are a correct line: no two correct lines differ in
-/// fewer.
-const EIGHT: [usize; 8] = [2, 210, 264, 384, 431, 441, 459, 480];
-
-/// Those of them whose bit is set.
-fn some_of_eight(bits: usize) -> Vec<usize> {
-    let all = EIGHT.iter().enumerate();
-    let set = all.filter(|&(i, _)| bits >> i & 1 == 1);
-    set.map(|(_, &place)| place).collect()
 }
 
 #[test]
@@ -100,29 +104,40 @@ fn a_line_on_the_way_to_another() {
 #[test]
 fn up_to_five_damaged_bits_no_line_is_wrong() {
     // No order is asked for: lines may be given up, but none is mended into
-    // another.
+    // another, and neither is a parity line.
     let mut random = Random::new(seed());
     let mut by_mark = [0; 5];
     for case in 0..cases(5_000) {
         let (rows, columns) = draw::sides(&mut random, 2 + case % 6);
         let written = Store::random(&mut random, rows, columns);
         let mut hurt = written.clone();
-        for n in 0..hurt.count() {
+        let mut up_to_five = || {
             let mut places = match random.below(3) {
                 0 => vec![],
                 1 => draw::places(&mut random, 5),
                 _ => some_of_eight(random.below(256)),
             };
             places.truncate(random.between(1, 5));
-            hurt.hurt(n, &places);
+            places
+        };
+        for n in 0..hurt.count() {
+            hurt.hurt(n, &up_to_five());
         }
-        let (answer, _, lines, marks) = repaired(&hurt);
-        for (n, line) in lines.chunks(LINE_BYTES).enumerate() {
-            let from = if marks[n] == 4 { &hurt } else { &written };
+        if case % 2 == 0 {
+            (0..rows).for_each(|row| hurt.hurt_row_parity(row, &up_to_five()));
+            (0..columns).for_each(|column| hurt.hurt_column_parity(column, &up_to_five()));
+        }
+        let given = repaired(&hurt);
+        for (n, line) in given.lines.chunks(LINE_BYTES).enumerate() {
+            let from = if given.marks[n] == 4 { &hurt } else { &written };
             assert_eq!(line, from.line(n), "case {case}, line {n}");
-            by_mark[usize::from(marks[n])] += 1;
+            by_mark[usize::from(given.marks[n])] += 1;
         }
-        assert_eq!(answer, if marks.contains(&4) { 11 } else { 0 });
+        let left = given.marks.contains(&4);
+        assert_eq!(given.answer, if left { 11 } else { 0 });
+        if !left {
+            expect_bytes(&given, &written, case);
+        }
     }
     println!("up to five damaged bits: lines by mark {by_mark:?}");
     assert!(by_mark.iter().all(|&lines| lines > 0));
@@ -157,52 +172,10 @@ fn past_five_damaged_bits_a_line_may_be_wrong() {
     ];
     for (i, (found, answer, passes, given, marks)) in cases.into_iter().enumerate() {
         let repaired = repaired(found);
-        let expected = (answer, passes, given.lines.clone(), marks.to_vec());
-        assert!(repaired == expected, "case {i}");
+        assert_eq!((repaired.answer, repaired.passes), (answer, passes));
+        assert_eq!(repaired.marks, marks, "case {i}");
+        expect_bytes(&repaired, given, i);
     }
-}
-
-#[test]
-fn a_damaged_parity_line_is_refused_or_gone_by() {
-    let written = Store::zero(2, 2);
-    for bits in 1..256 {
-        let places = some_of_eight(bits);
-        let (mut row, mut column) = (written.clone(), written.clone());
-        row.hurt_row_parity(1, &places);
-        column.hurt_column_parity(1, &places);
-        for (hurt, refusal) in [(row, 13), (column, 14)] {
-            let expected = if places.len() < 8 {
-                Outcome {
-                    answer: refusal,
-                    passes: 0,
-                    number: 1,
-                    lines: vec![FILLING; 4 * LINE_BYTES],
-                    marks: vec![FILLING; 4],
-                }
-            } else {
-                Outcome {
-                    answer: 12,
-                    passes: 0,
-                    number: 0,
-                    lines: written.lines.clone(),
-                    marks: vec![0; 4],
-                }
-            };
-            let given = samples::repaired(&Library, &hurt);
-            assert_eq!(given, expected, "places {places:?}");
-        }
-    }
-    // Both parity lines of line 0 are those of another line: it is rebuilt as
-    // that one, and nothing tells.
-    let mut hurt = written.clone();
-    hurt.hurt_row_parity(0, &EIGHT);
-    hurt.hurt_column_parity(0, &EIGHT);
-    hurt.hurt(0, &[0, 1]);
-    let (answer, passes, lines, marks) = repaired(&hurt);
-    assert_eq!((answer, passes, marks), (0, 1, vec![3, 0, 0, 0]));
-    let mut other = written.clone();
-    other.hurt(0, &EIGHT);
-    assert!(lines == other.lines);
 }
 
 /// Reads one line alone with every pair of its places hurt.

@@ -64,16 +64,14 @@ impl Tally {
         }
     }
 
-    /// Bad rows and bad columns came up, the first of each and others.
+    /// Changes met bad rows and bad columns, the first of each and others.
     fn expect_bad_parity(&self) {
-        for entry in [Entry::Change, Entry::Repair] {
-            for answer in [13, 14] {
-                let [zero, other] = self.count(entry, answer);
-                assert!(
-                    zero > 0 && other > 0,
-                    "{entry:?}, answer {answer}: {zero} of row or column 0, {other} of others"
-                );
-            }
+        for answer in [13, 14] {
+            let [zero, other] = self.count(Entry::Change, answer);
+            assert!(
+                zero > 0 && other > 0,
+                "answer {answer}: {zero} of row or column 0, {other} of others"
+            );
         }
     }
 }
@@ -260,6 +258,12 @@ fn sides_2_and_512_agree() {
         ] {
             draw::hurt(&mut random, &mut store, way);
         }
+        compare_all(&mut tally, &mut random, &store);
+        // And with parity lines hurt: the last ones past reading.
+        store.hurt_row_parity(rows - 1, &[0, 1]);
+        store.hurt_column_parity(columns - 1, &[0, 1]);
+        compare_all(&mut tally, &mut random, &store);
+        draw::hurt(&mut random, &mut store, Damage::ParityGone);
         compare_all(&mut tally, &mut random, &store);
     }
     tally.print("sides 2 and 512");

@@ -1,16 +1,21 @@
-//! Bad parity lines as request Q-2 words them: on both implementations through
-//! C's functions, and on the crate's store.
+//! Bad parity lines as requests word them: on both implementations
+//! through C's functions, and on the crate's store.
 
 #[path = "../../../reference/tests/q2/mod.rs"]
 pub mod q2;
+#[path = "../../../reference/tests/q3/mod.rs"]
+pub mod q3;
 
 use library_tests::{Interface, as_many_as_usual, both, cases, seed, watched};
-use q2::{Given, Seen, Spoilt};
-use reference::draw::Call;
+use q2::Spoilt;
+use q3::Case;
+use reference::draw::{Call, Outcome};
 use reference::random::Random;
 use sudoku::{Answer, Store};
 
-fn change(on: &dyn Interface, call: &Call) -> Given {
+use crate::samples::repair;
+
+fn change(on: &dyn Interface, call: &Call) -> q2::Given {
     let mut after = call.clone();
     let (answer, number) = on.change_line(
         call.rows,
@@ -21,29 +26,9 @@ fn change(on: &dyn Interface, call: &Call) -> Given {
         call.n,
         &after.data,
     );
-    Given {
+    q2::Given {
         answer,
         number,
-        passes: 0,
-        after,
-    }
-}
-
-fn repair(on: &dyn Interface, call: &Call) -> Given {
-    let mut after = call.clone();
-    let (answer, passes, number) = on.repair(
-        call.rows,
-        call.columns,
-        &after.lines,
-        &after.row_table,
-        &after.column_table,
-        &mut after.out,
-        &mut after.marks,
-    );
-    Given {
-        answer,
-        number,
-        passes,
         after,
     }
 }
@@ -71,57 +56,58 @@ fn numbers(answer: Answer) -> (u32, u64) {
     (answer.number(), number as u64)
 }
 
-/// What the crate's store gives, with its lines and tables as they are after.
-fn from_store(call: &Call, store: &Store, answer: Answer) -> Given {
+/// What the crate's store gives for a change.
+fn change_store(call: &Call) -> q2::Given {
+    let mut store = store_of(call);
+    let data = call.data[..].try_into().expect("64 bytes");
+    let answer = store.change(call.n, data).err().unwrap_or(Answer::Done);
     let (answer, number) = numbers(answer);
     let mut after = call.clone();
     after.lines = store.lines().to_vec();
     after.row_table = store.row_table().to_vec();
     after.column_table = store.column_table().to_vec();
-    Given {
+    q2::Given {
         answer,
         number,
-        passes: 0,
         after,
     }
 }
 
-fn change_store(call: &Call) -> Given {
-    let mut store = store_of(call);
-    let data = call.data[..].try_into().expect("64 bytes");
-    let answer = store.change(call.n, data).err().unwrap_or(Answer::Done);
-    from_store(call, &store, answer)
-}
-
-fn repair_store(call: &Call) -> Given {
+/// What the crate's store gives for a repair; it stays as it was.
+fn repair_store(call: &Call) -> Outcome {
     let store = store_of(call);
-    match store.repair() {
-        Err(answer) => from_store(call, &store, answer),
-        Ok(repaired) => {
-            let mut given = from_store(call, &store, repaired.answer);
-            given.passes = repaired.passes;
-            given.after.out = repaired.store.lines().to_vec();
-            given.after.marks = repaired.marks.iter().map(|mark| mark.number()).collect();
-            given
-        }
+    let repaired = store.repair();
+    assert!(store == store_of(call));
+    Outcome {
+        answer: repaired.answer.number(),
+        passes: repaired.passes,
+        lines: repaired.store.lines().to_vec(),
+        marks: repaired.marks.iter().map(|mark| mark.number()).collect(),
+        row_table: repaired.store.row_table().to_vec(),
+        column_table: repaired.store.column_table().to_vec(),
     }
 }
 
-/// What these stores give on both implementations and on the crate's store.
+/// On both implementations and on the crate's store a change is refused with 13
+/// and 14, and repair makes the tables whole.
 fn expect_all(stores: impl Iterator<Item = Spoilt>) {
     for spoilt in stores {
         for on in both() {
-            spoilt.expect_repair(|call| repair(on, call));
             spoilt.expect_changes(|call| change(on, call));
+            q3::expect_whole(&spoilt.store, |call| repair(on, call));
         }
-        spoilt.expect_repair(repair_store);
         spoilt.expect_changes(change_store);
+        q3::expect_whole(&spoilt.store, repair_store);
     }
 }
 
-#[test]
-fn every_set_of_bad_parity_lines() {
-    expect_all(q2::every_set());
+/// These repairs on both implementations and on the crate's store.
+fn expect_cases(cases: impl Iterator<Item = Case>) {
+    let cases: Vec<Case> = cases.collect();
+    for on in both() {
+        q3::expect_cases(cases.iter().cloned(), |call| repair(on, call));
+    }
+    q3::expect_cases(cases.into_iter(), repair_store);
 }
 
 /// Of many stores a memory checker is shown every 97th.
@@ -130,8 +116,14 @@ fn step() -> usize {
 }
 
 #[test]
+fn every_set_of_bad_parity_lines() {
+    expect_all(q2::every_set());
+}
+
+#[test]
 fn every_place_of_a_parity_line() {
     expect_all(q2::every_place().step_by(step()));
+    expect_cases(q3::every_place().step_by(step()));
 }
 
 #[test]
@@ -145,39 +137,56 @@ fn bad_parity_lines_of_large_stores() {
 }
 
 #[test]
-fn answers_in_checking_order_and_their_numbers() {
-    for on in both() {
-        q2::expect_cases(&q2::changes_in_order(), |call| change(on, call));
-        q2::expect_cases(&q2::repairs_in_order(), |call| repair(on, call));
-    }
-    // The crate's store always has the right lengths.
-    let mut changes = q2::changes_in_order();
-    changes.retain(|&(_, answer, _)| ![2, 5, 6, 7].contains(&answer));
-    q2::expect_cases(&changes, change_store);
-    let mut repairs = q2::repairs_in_order();
-    repairs.retain(|&(_, answer, _)| ![2, 5, 6, 7].contains(&answer));
-    q2::expect_cases(&repairs, repair_store);
-    let answers = |cases: &[q2::Case]| -> Vec<u32> { cases.iter().map(|case| case.1).collect() };
-    assert_eq!(answers(&changes), [0, 10, 14, 13, 8, 8]);
-    assert_eq!(answers(&repairs), [0, 12, 11, 14, 13]);
+fn repairs_worked_out_by_hand() {
+    expect_cases(q3::all());
 }
 
 #[test]
-fn drawn_calls_answer_as_the_request_says() {
+fn a_parity_line_on_the_way_to_another() {
+    expect_cases(q3::on_the_way_to_another());
+}
+
+#[test]
+fn what_the_written_buffers_held_does_not_matter() {
+    for on in both() {
+        q3::fillings(|call| repair(on, call));
+    }
+}
+
+#[test]
+fn answers_in_checking_order() {
+    let (mut changes, mut repairs) = (q2::changes_in_order(), q3::repairs_in_order());
+    for on in both() {
+        q2::expect_cases(&changes, |call| change(on, call));
+        q3::expect_answers(&repairs, |call| repair(on, call));
+        q3::expect_answers(&q3::one_wrong_length(), |call| repair(on, call));
+    }
+    // The crate's store always has the right lengths.
+    for cases in [&mut changes, &mut repairs] {
+        cases.retain(|(_, answer)| ![2, 5, 6, 7].contains(answer));
+    }
+    q2::expect_cases(&changes, change_store);
+    q3::expect_answers(&repairs, repair_store);
+    let answers = |cases: &[q2::Case]| -> Vec<u32> { cases.iter().map(|case| case.1).collect() };
+    assert_eq!(answers(&changes), [0, 10, 14, 13, 8, 8]);
+    assert_eq!(answers(&repairs), [0, 12, 11, 11, 11]);
+}
+
+#[test]
+fn drawn_calls_answer_as_the_requests_say() {
     let mut random = Random::new(seed());
-    let (mut changes, mut repairs) = (Seen::default(), Seen::default());
+    let (mut changes, mut repairs) = (q2::Seen::default(), q3::Seen::default());
     for _ in 0..cases(8_000) {
         let call = q2::drawn_call(&mut random, 5);
         for on in both() {
             let given = change(on, &call);
             q2::check_change(&call, &given);
             changes.count(&given);
-            let given = repair(on, &call);
-            q2::check_repair(&call, &given);
-            repairs.count(&given);
+            repairs.check(&call, &repair(on, &call));
         }
     }
-    println!("request Q-2: changes {changes:?}, repairs {repairs:?}");
+    println!("request Q-2: changes {changes:?}");
+    println!("request Q-3: repairs {repairs:?}");
     if as_many_as_usual() {
         changes.expect(100);
         repairs.expect(100);
@@ -185,20 +194,26 @@ fn drawn_calls_answer_as_the_request_says() {
 }
 
 #[test]
-fn a_person_reads_which_table_to_reload() {
+fn a_person_reads_what_to_do() {
     let mut store = Store::new(5, 6).expect("five by six");
+    let line = 3 * 6 + 4;
     store.column_table_mut()[4 * 70] ^= 1;
-    let refused = store.repair().expect_err("a bad column");
+    let refused = store.change(line, &[7; 64]).expect_err("a bad column");
     assert_eq!(refused, Answer::ColumnParity { column: 4 });
     assert_eq!(
         refused.to_string(),
-        "the parity line of column 4 is not a correct line: reload the column table"
+        "the parity line of column 4 is not a correct line: repair the store or reload the column table"
     );
     store.row_table_mut()[3 * 70] ^= 1;
-    let refused = store.repair().expect_err("a bad row");
+    let refused = store.change(line, &[7; 64]).expect_err("a bad row");
     assert_eq!(refused, Answer::RowParity { row: 3 });
     assert_eq!(
         refused.to_string(),
-        "the parity line of row 3 is not a correct line: reload the row table"
+        "the parity line of row 3 is not a correct line: repair the store or reload the row table"
     );
+    // Repaired, the store can be changed.
+    let mut repaired = store.repair();
+    assert_eq!(repaired.answer, Answer::Done);
+    assert_eq!(repaired.store.change(line, &[7; 64]), Ok(()));
+    assert_eq!(repaired.store.repair().answer, Answer::Done);
 }

@@ -2,11 +2,12 @@
 
 use library_tests::{Guarded, Interface, both};
 use reference::LINE_BYTES;
-use reference::draw::{Outcome, Store, flip, staircase};
+use reference::draw::{Call, Outcome, Store, call_on, flip, staircase};
 use reference::random::Random;
+use sudoku::c::Out;
 
-/// What buffers that are only written hold before.
-pub const FILLING: u8 = 0xEE;
+/// What a line's buffer holds before it is written.
+const FILLING: u8 = 0xEE;
 
 const ZERO_LINE: [u8; LINE_BYTES] = [0; LINE_BYTES];
 
@@ -32,27 +33,41 @@ pub fn read(on: &dyn Interface, line: &[u8]) -> (Vec<u8>, u8, u32) {
     (out.content().to_vec(), mark, answer)
 }
 
-/// What repair gives for a store.
-pub fn repaired(on: &dyn Interface, store: &Store) -> Outcome {
-    let mut lines = Guarded::new(&vec![FILLING; store.lines.len()], 1);
-    let mut marks = Guarded::new(&vec![FILLING; store.count()], 7);
-    let (answer, passes, number) = on.repair(
-        store.rows,
-        store.columns,
-        &store.lines,
-        &store.row_table,
-        &store.column_table,
-        lines.content_mut(),
-        marks.content_mut(),
+/// What repair gives for a call, over guarded buffers.
+pub fn repair(on: &dyn Interface, call: &Call) -> Outcome {
+    let mut lines = Guarded::new(&call.out, 1);
+    let mut marks = Guarded::new(&call.marks, 7);
+    let mut row_table = Guarded::new(&call.row_out, 2);
+    let mut column_table = Guarded::new(&call.column_out, 12);
+    let (answer, passes) = on.repair(
+        call.rows,
+        call.columns,
+        &call.lines,
+        &call.row_table,
+        &call.column_table,
+        Out {
+            lines: lines.content_mut(),
+            marks: marks.content_mut(),
+            row_table: row_table.content_mut(),
+            column_table: column_table.content_mut(),
+        },
     );
-    assert!(lines.intact() && marks.intact());
+    let written = [&lines, &marks, &row_table, &column_table];
+    assert!(written.into_iter().all(Guarded::intact));
+    let [lines, marks, row_table, column_table] = written.map(|buffer| buffer.content().to_vec());
     Outcome {
         answer,
         passes,
-        number,
-        lines: lines.content().to_vec(),
-        marks: marks.content().to_vec(),
+        lines,
+        marks,
+        row_table,
+        column_table,
     }
+}
+
+/// What repair gives for a store, over buffers that hold anything before.
+pub fn repaired(on: &dyn Interface, store: &Store) -> Outcome {
+    repair(on, &call_on(&mut Random::new(0), store.clone()))
 }
 
 /// A 2 by 2 store of zero lines, each hurt at its places, after repair.
@@ -69,6 +84,13 @@ fn expect_zero_store(outcome: &Outcome, marks: [u8; 4], passes: u64) {
     assert_eq!(outcome.marks, marks);
     assert_eq!((outcome.passes, outcome.answer), (passes, 0));
     assert_eq!(outcome.lines, [0; 4 * LINE_BYTES]);
+    expect_zero_tables(outcome);
+}
+
+/// Both tables are those of the 2 by 2 store of zero lines.
+fn expect_zero_tables(outcome: &Outcome) {
+    assert_eq!(outcome.row_table, [0; 2 * LINE_BYTES]);
+    assert_eq!(outcome.column_table, [0; 2 * LINE_BYTES]);
 }
 
 #[test]
@@ -112,6 +134,7 @@ fn two_by_two_stores() {
         assert_eq!(left.marks, [4; 4]);
         assert_eq!((left.passes, left.answer), (1, 11));
         assert_eq!(left.lines, zero_line_hurt(two).repeat(4));
+        expect_zero_tables(&left);
 
         let mut foreign = Store::zero(2, 2);
         foreign.line_mut(0).copy_from_slice(&line_511());
@@ -119,6 +142,7 @@ fn two_by_two_stores() {
         assert_eq!(differs.marks, [0; 4]);
         assert_eq!((differs.passes, differs.answer), (0, 12));
         assert_eq!(differs.lines, foreign.lines);
+        expect_zero_tables(&differs);
     }
 }
 
@@ -146,24 +170,14 @@ fn answers_for_sides(on: &dyn Interface, rows: usize, columns: usize) -> [u32; 3
     let fits = rows.max(columns) <= 513;
     let (r, c) = if fits { (rows, columns) } else { (0, 0) };
     let store = Store::zero(r, c);
-    let repair = {
-        let mut out = vec![FILLING; r * c * LINE_BYTES];
-        let mut marks = vec![FILLING; r * c];
-        let (of_rows, of_columns) = (&store.row_table, &store.column_table);
-        let (answer, passes, number) = on.repair(
-            rows,
-            columns,
-            &store.lines,
-            of_rows,
-            of_columns,
-            &mut out,
-            &mut marks,
-        );
-        assert_eq!((passes, number), (0, 0));
-        let untouched = out.iter().chain(&marks).all(|&byte| byte == FILLING);
-        assert_eq!(untouched, answer != 0);
-        answer
-    };
+    let mut call = call_on(&mut Random::new(6), store.clone());
+    (call.rows, call.columns) = (rows, columns);
+    let given = repair(on, &call);
+    let answer = given.answer;
+    let before = Outcome::before(&call);
+    let untouched = given == Outcome { answer, ..before };
+    assert_eq!((given.passes, untouched), (0, answer != 0));
+
     let mut made = store.clone();
     let (of_rows, of_columns) = (&mut made.row_table, &mut made.column_table);
     let tables = on.make_tables(rows, columns, &made.lines, of_rows, of_columns);
@@ -179,7 +193,7 @@ fn answers_for_sides(on: &dyn Interface, rows: usize, columns: usize) -> [u32; 3
         &[1; 64],
     );
     assert_eq!((made == store, number), (change != 0, 0));
-    [tables, change, repair]
+    [tables, change, answer]
 }
 
 #[test]
@@ -210,6 +224,8 @@ fn long_chains_need_many_passes() {
             assert_eq!(store.tables_anew(), 0);
             assert!(store.row_table == handed_in.row_table);
             assert!(store.column_table == handed_in.column_table);
+            assert!(outcome.row_table == handed_in.row_table);
+            assert!(outcome.column_table == handed_in.column_table);
         }
     }
 }

@@ -10,7 +10,7 @@ use reference::draw::{self, Store};
 use reference::random::Random;
 
 use crate::marks::q1;
-use crate::parity::q2;
+use crate::parity::q3;
 
 /// Where the program is built: `target/bin/storecheck` of the repository, or
 /// what `SUDOKU_STORECHECK` says.
@@ -73,9 +73,11 @@ fn hamming_bits_count_under_alone() {
 }
 
 #[test]
-fn a_bad_parity_line_gives_its_answer_alone() {
-    for (store, report) in q2::reports() {
-        assert_eq!(printed(&program(), &store.file()), report);
+fn a_report_is_whole_whatever_the_parity_lines() {
+    for case in q3::all() {
+        let (rows, columns) = case.sides;
+        let file = case.hurt(&Store::zero(rows, columns)).file();
+        assert_eq!(printed(&program(), &file), case.report(), "{}", case.says);
     }
 }
 
