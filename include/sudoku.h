@@ -16,20 +16,21 @@
  *   below.
  * - Writable buffers, `mark`, `passes` and `number` among them, overlap nothing else that is handed in. Buffers that are only read
  *   may overlap each other.
- * - Callers of sudoku_change_line and sudoku_repair are compiled with this header. An earlier one had no `number`: a call compiled
- *   with it still links, and then a value is written to some place that the caller never named.
- * - Making tables and repair need about 110 kB of stack, whatever the size of the rectangle; the other calls less than 2 kB.
+ * - Callers of sudoku_change_line and sudoku_repair are compiled with this header. Earlier ones had fewer or other parameters: a
+ *   call compiled with one of them still links, and then bytes are written to places that the caller never named.
+ * - Repair needs less than 48 kB of stack (about 32 kB of it a table), making tables about 110 kB, whatever the size of the
+ *   rectangle; the other calls less than 2 kB.
  *
  * What a caller should know:
- * - After a refusal (any answer but 0, 11 and 12) the buffers are as they were: what stands in `out` or `marks` is no result. Only
- *   sudoku_read_line's 10 writes: `out` is then the line as found. Test the answer first.
- * - After SUDOKU_ROW_PARITY (13) the row table has to be loaded anew, after SUDOKU_COLUMN_PARITY (14) the column table. Rows are
- *   tested first: with 13 the column table may be bad too.
- * - After SUDOKU_LEFT (11) the lines with mark 4 are damaged, as found.
- * - After SUDOKU_DIFFERS (12) trust no line: none is faulty, but some parity line disagrees. Some line may be wrong, and nothing
- *   tells which.
- * - After SUDOKU_DONE the lines of a repair are those written, if both tables are undamaged and no line had more than five damaged
+ * - After a refusal (any answer but 0, 11 and 12) the buffers are as they were: what stands in `out`, `marks` or the tables written
+ *   is no result. Only sudoku_read_line's 10 writes: `out` is then the line as found. Test the answer first.
+ * - After SUDOKU_LEFT (11) the lines with mark 4 are damaged, as found, and so are the parity lines that were not accepted.
+ * - After SUDOKU_DIFFERS (12) trust no line: none is faulty, but some parity line that was accepted disagrees. Some line may be
+ *   wrong, and nothing tells which.
+ * - After SUDOKU_DONE lines and tables of a repair are those written, if no line and no parity line had more than five damaged
  *   bits. What holds beyond that is in README.md.
+ * - After SUDOKU_ROW_PARITY (13) or SUDOKU_COLUMN_PARITY (14), which only a change gives, repair the store: after 0 and 12 all its
+ *   parity lines are correct lines. Or load that table anew. The row is tested first: with 13 the column's may be bad too.
  * - Lines and tables of zero bytes are a valid store, all lines and parity lines correct. Memory that was cleared cannot be told
  *   from a store of empty captions.
  *
@@ -47,8 +48,9 @@
  *     {
  *         static uint8_t lines[LINES * SUDOKU_LINE_BYTES], out[LINES * SUDOKU_LINE_BYTES], marks[LINES];
  *         static uint8_t rows[ROWS * SUDOKU_LINE_BYTES], columns[COLUMNS * SUDOKU_LINE_BYTES];
+ *         static uint8_t row_out[ROWS * SUDOKU_LINE_BYTES], column_out[COLUMNS * SUDOKU_LINE_BYTES];
  *         uint8_t data[SUDOKU_DATA_BYTES] = "To be, or not to be";
- *         uint64_t passes, number;
+ *         uint64_t passes;
  *
  *         for (size_t n = 0; n < LINES; n++)
  *             if (sudoku_write_line(data, sizeof data, lines + n * SUDOKU_LINE_BYTES, SUDOKU_LINE_BYTES) != SUDOKU_DONE)
@@ -57,7 +59,8 @@
  *             return 1;
  *         lines[3 * SUDOKU_LINE_BYTES] ^= 3;
  *         if (sudoku_repair(ROWS, COLUMNS, lines, sizeof lines, rows, sizeof rows, columns, sizeof columns,
- *                           out, sizeof out, marks, sizeof marks, &passes, &number) != SUDOKU_DONE)
+ *                           out, sizeof out, marks, sizeof marks, row_out, sizeof row_out, column_out, sizeof column_out,
+ *                           &passes) != SUDOKU_DONE)
  *             return 1;
  *         printf("%s, mark %u\n", (const char *)out + 3 * SUDOKU_LINE_BYTES, (unsigned)marks[3]);
  *         return memcmp(out + 3 * SUDOKU_LINE_BYTES, data, sizeof data) == 0 ? 0 : 1;
@@ -81,9 +84,9 @@ extern "C" {
 /*
  * Answers. A call gives the first that fits in this order; 0 if none does. All but 0, 11 and 12 are refusals: all buffers are as
  * they were, and a returned value is 0. Three differ: sudoku_read_line's 10, which gives the line as found and mark 4, and 13 and
- * 14, which give the number of a row or a column, counted from 0. With 11 and 12 the lines, the marks and the passes are given as
- * with 0. (Numbers 1, 3 and 4 are about store files and come from no call here. 9 is no longer given: 13 and 14 stand in its place
- * and are tested after 8 and before 10.)
+ * 14, which give the number of a row or a column, counted from 0. With 11 and 12 lines, marks, tables and passes are given as with
+ * 0. (Numbers 1, 3 and 4 are about store files and come from no call here. 9 is no longer given: 13 and 14 stand in its place, in a
+ * change alone, and are tested after 8 and before 10.)
  */
 enum sudoku_answer {
     SUDOKU_DONE = 0,           /* done */
@@ -92,11 +95,11 @@ enum sudoku_answer {
     SUDOKU_TABLE = 6,          /* a table, read or written, is not 70 bytes for each of its rows or columns */
     SUDOKU_BUFFER = 7,         /* another buffer has another length: 64 for data, 70 for a line written, as each function says */
     SUDOKU_NUMBER = 8,         /* the line number is not below rows * columns */
-    SUDOKU_ROW_PARITY = 13,    /* a row's parity line is not a correct line (its spare bits do not count) */
-    SUDOKU_COLUMN_PARITY = 14, /* a column's parity line is not a correct line (its spare bits do not count) */
+    SUDOKU_ROW_PARITY = 13,    /* change: the parity line of its row is not a correct line (its spare bits do not count) */
+    SUDOKU_COLUMN_PARITY = 14, /* change: the parity line of its column is not a correct line (likewise) */
     SUDOKU_FAULTY = 10,        /* a line to be read alone, changed or summed into tables is faulty */
     SUDOKU_LEFT = 11,          /* repair: faulty lines are left after the last pass */
-    SUDOKU_DIFFERS = 12        /* repair: no line is faulty, but a parity line differs from the repaired lines: trust no line */
+    SUDOKU_DIFFERS = 12        /* repair: no line is faulty, but an accepted parity line differs from the lines: trust none */
 };
 
 /* Marks: what became of a line. Reading alone gives 0, 1 or 4. */
@@ -146,18 +149,24 @@ uint32_t sudoku_change_line(size_t rows, size_t columns, uint8_t *lines, size_t 
                             size_t n, const uint8_t *data, size_t data_len, uint64_t *number);
 
 /*
- * Repairs a rectangle: reads lines and tables, writes the repaired lines into `out` (rows * columns * 70 bytes) and a mark for
- * each line into `marks` (rows * columns bytes), and sets `passes`: 0 if every line reads alone, and never more than the lines
- * that do not. Lines and tables that are handed in stay as they are.
+ * Repairs a rectangle. Every parity line is read alone first. An accepted one is used as read; a faulty one makes its row or column
+ * unusable: no line is mended from it. Then every line is read alone, and those that are faulty are mended from the usable rows and
+ * columns, in as many passes as it takes.
  *
- * Answers: 0; 11, some lines have mark 4 and are as found; 12, trust no line; all three with lines, marks and passes. 2; 5; 6; 7 if
- * `out_len` or `marks_len` is another; 13 if any row's parity line is not correct, with the first such row as `number`; 14 if any
- * column's is not, with the first such column as `number`: `out` and `marks` are then as before. With all but 13 and 14 `number`
- * is 0.
+ * Writes the lines into `out` (rows * columns * 70 bytes), a mark for each line into `marks` (rows * columns bytes) and both tables
+ * into `row_out` and `column_out` (70 bytes for each row, and for each column), all with spare bits 0. A parity line that was
+ * accepted is written as read. A faulty one is written as found if lines are left faulty (answer 11), and otherwise made afresh
+ * from the lines. Sets `passes`: 0 if every line reads alone, and never more than the lines that do not. Lines and tables that are
+ * handed in stay as they are. `row_out` and `column_out` serve as room to work in while repair runs: what they hold before does not
+ * matter, and a refusal leaves them as they were.
+ *
+ * Answers: 0; 11, some lines have mark 4 and are as found; 12, trust no line; all three with lines, marks, tables and passes. 2; 5;
+ * 6 if one of the four tables has another length; 7 if `out_len` or `marks_len` is another. Never 13 or 14.
  */
 uint32_t sudoku_repair(size_t rows, size_t columns, const uint8_t *lines, size_t lines_len,
                        const uint8_t *row_table, size_t row_len, const uint8_t *column_table, size_t column_len,
-                       uint8_t *out, size_t out_len, uint8_t *marks, size_t marks_len, uint64_t *passes, uint64_t *number);
+                       uint8_t *out, size_t out_len, uint8_t *marks, size_t marks_len,
+                       uint8_t *row_out, size_t row_out_len, uint8_t *column_out, size_t column_out_len, uint64_t *passes);
 
 #ifdef __cplusplus
 }

@@ -1,6 +1,13 @@
-/* The C interface from C: samples, refusals and guard bytes. Prints what failed; the exit status is 1 if anything did. */
+/*
+ * The C interface from C: samples, refusals, guard bytes, and how much stack each call takes. Prints what failed; the exit status
+ * is 1 if anything did.
+ */
+#define _POSIX_C_SOURCE 200809L
+#include <pthread.h>
 #include <stdio.h>
 #include <string.h>
+#include <sys/mman.h>
+#include <unistd.h>
 
 #include "sudoku.h"
 
@@ -35,6 +42,8 @@ GUARDED(rows, ROWS *LINE);
 GUARDED(columns, COLUMNS *LINE);
 GUARDED(out, ALL);
 GUARDED(marks, COUNT);
+GUARDED(row_out, ROWS *LINE);
+GUARDED(column_out, COLUMNS *LINE);
 
 #define FILL(name) memset(name##_all, FILLING, sizeof name##_all)
 #define INTACT(name) \
@@ -196,145 +205,467 @@ static void changing(void)
     CHECK(INTACT(lines) && INTACT(rows) && INTACT(columns));
 }
 
-static uint32_t repair(size_t out_len, size_t marks_len, uint64_t *passes)
+/* Sides, and the lengths of all that repair takes. */
+struct sizes {
+    size_t rows, columns, lines, row_table, column_table, out, marks, row_out, column_out;
+};
+
+static const struct sizes right = {ROWS, COLUMNS, ALL, ROWS * LINE, COLUMNS * LINE, ALL, COUNT, ROWS * LINE, COLUMNS * LINE};
+
+static uint32_t repair_sized(struct sizes s, uint64_t *passes)
 {
-    unset_number();
-    return sudoku_repair(ROWS, COLUMNS, lines, ALL, rows, ROWS * LINE, columns, COLUMNS * LINE, out, out_len, marks, marks_len,
-                         passes, number);
+    *passes = UNSET;
+    return sudoku_repair(s.rows, s.columns, lines, s.lines, rows, s.row_table, columns, s.column_table, out, s.out, marks, s.marks,
+                         row_out, s.row_out, column_out, s.column_out, passes);
 }
 
-/* The answer of repair where sides, lines or tables have these sizes. */
-static uint32_t repair_sized(size_t r, size_t c, size_t lines_len, size_t rows_len, size_t columns_len, uint64_t *passes)
+static void fill_written(void)
 {
-    unset_number();
-    return sudoku_repair(r, c, lines, lines_len, rows, rows_len, columns, columns_len, out, ALL, marks, COUNT, passes, number);
+    FILL(out);
+    FILL(marks);
+    FILL(row_out);
+    FILL(column_out);
+}
+
+static int written_intact(void)
+{
+    return INTACT(out) && INTACT(marks) && INTACT(row_out) && INTACT(column_out);
+}
+
+/* Whether repair gives this answer and these passes, and writes nothing beside its buffers. */
+static int repairs(uint32_t answer, uint64_t expected)
+{
+    uint64_t passes;
+
+    fill_written();
+    return repair_sized(right, &passes) == answer && passes == expected && written_intact();
+}
+
+/* Whether repair with these sizes is refused so: nothing is written, and the passes are 0. */
+static int refused(struct sizes sizes, uint32_t answer)
+{
+    uint64_t passes;
+
+    fill_written();
+    return repair_sized(sizes, &passes) == answer && passes == 0 && UNTOUCHED(out) && UNTOUCHED(marks) && UNTOUCHED(row_out)
+        && UNTOUCHED(column_out);
+}
+
+/* Lines and tables, to be compared with and to go back to. */
+struct store {
+    uint8_t lines[ALL], rows[ROWS * LINE], columns[COLUMNS * LINE];
+};
+
+static void keep(struct store *store)
+{
+    memcpy(store->lines, lines, ALL);
+    memcpy(store->rows, rows, ROWS * LINE);
+    memcpy(store->columns, columns, COLUMNS * LINE);
+}
+
+static void put_back(const struct store *store)
+{
+    memcpy(lines, store->lines, ALL);
+    memcpy(rows, store->rows, ROWS * LINE);
+    memcpy(columns, store->columns, COLUMNS * LINE);
+}
+
+/* Whether lines, rows and columns each are as kept, or each are not. */
+static int as_kept(const struct store *store, int same)
+{
+    return (memcmp(lines, store->lines, ALL) == 0) == same && (memcmp(rows, store->rows, ROWS * LINE) == 0) == same
+        && (memcmp(columns, store->columns, COLUMNS * LINE) == 0) == same;
+}
+
+/* Whether repair gave these lines and tables, byte for byte. */
+static int gave(const struct store *store)
+{
+    return memcmp(out, store->lines, ALL) == 0 && memcmp(row_out, store->rows, ROWS * LINE) == 0
+        && memcmp(column_out, store->columns, COLUMNS * LINE) == 0;
+}
+
+/* Changes every line: 13 with its row where that is bad, else 14 with its column where that is, and nothing is written then. */
+static void change_each(unsigned bad_rows, unsigned bad_columns)
+{
+    static struct store before;
+    uint8_t data[SUDOKU_DATA_BYTES];
+
+    memset(data, 'y', sizeof data);
+    keep(&before);
+    for (size_t n = 0; n < COUNT; n++) {
+        const int bad_row = bad_rows >> n / COLUMNS & 1, bad_column = bad_columns >> n % COLUMNS & 1;
+        const uint32_t answer = bad_row ? SUDOKU_ROW_PARITY : bad_column ? SUDOKU_COLUMN_PARITY : SUDOKU_DONE;
+
+        CHECK(change(n, data, sizeof data) == answer && numbered(bad_row ? n / COLUMNS : bad_column ? n % COLUMNS : 0));
+        CHECK(as_kept(&before, answer != SUDOKU_DONE));
+        put_back(&before);
+    }
 }
 
 /*
- * Every set of bad rows with every set of bad columns. Repair gives the first bad row, or else the first bad column; a change looks
- * at its own row and column alone. Nothing is written.
+ * Every set of bad rows with every set of bad columns, each line hurt in one bit or past reading. A change looks at its own row and
+ * column alone. Repair refuses none of them, and gives both tables as they were written.
  */
 static void bad_parity(void)
 {
-    static uint8_t lines_before[ALL], rows_written[ROWS * LINE], columns_written[COLUMNS * LINE];
-    static uint8_t rows_before[ROWS * LINE], columns_before[COLUMNS * LINE];
-    uint8_t data[SUDOKU_DATA_BYTES];
+    static struct store written;
 
     CHECK(SUDOKU_ROW_PARITY == 13 && SUDOKU_COLUMN_PARITY == 14);
-    memset(data, 'y', sizeof data);
-    memcpy(lines_before, lines, sizeof lines_before);
-    memcpy(rows_written, rows, sizeof rows_written);
-    memcpy(columns_written, columns, sizeof columns_written);
+    keep(&written);
     for (unsigned set = 0; set < 1u << (ROWS + COLUMNS); set++) {
         const unsigned bad_rows = set % (1u << ROWS), bad_columns = set >> ROWS;
-        uint32_t answer = SUDOKU_DONE;
-        uint64_t first = 0, passes = 77;
 
-        /* A data bit of a row, a Hamming bit of a column; the spare bits do not count. */
-        for (size_t c = COLUMNS; c-- > 0;) {
+        /* Data bits of a row, a Hamming bit of a column; the spare bits do not count. */
+        for (size_t c = 0; c < COLUMNS; c++) {
             columns[c * LINE + 69] |= 0xFC;
-            if (bad_columns >> c & 1) {
-                columns[c * LINE + 68] ^= 1;
-                answer = SUDOKU_COLUMN_PARITY;
-                first = c;
-            }
+            columns[c * LINE + 68] ^= bad_columns >> c & 1;
         }
-        for (size_t r = ROWS; r-- > 0;) {
+        for (size_t r = 0; r < ROWS; r++) {
             rows[r * LINE + 67] |= 0x80;
-            if (bad_rows >> r & 1) {
-                rows[r * LINE + 63] ^= 0x80;
-                answer = SUDOKU_ROW_PARITY;
-                first = r;
-            }
+            rows[r * LINE + 63] ^= bad_rows >> r & 1 ? 0xC0 : 0;
         }
-        memcpy(rows_before, rows, sizeof rows_before);
-        memcpy(columns_before, columns, sizeof columns_before);
-        FILL(out);
-        FILL(marks);
-        CHECK(repair(ALL, COUNT, &passes) == answer && numbered(first) && passes == 0);
-        CHECK(answer == SUDOKU_DONE ? memcmp(out, lines, ALL) == 0 : UNTOUCHED(out) && UNTOUCHED(marks));
-        for (size_t n = 0; n < COUNT; n++) {
-            const int bad_row = bad_rows >> n / COLUMNS & 1, bad_column = bad_columns >> n % COLUMNS & 1;
-
-            answer = bad_row ? SUDOKU_ROW_PARITY : bad_column ? SUDOKU_COLUMN_PARITY : SUDOKU_DONE;
-            first = bad_row ? n / COLUMNS : bad_column ? n % COLUMNS : 0;
-            CHECK(change(n, data, sizeof data) == answer && numbered(first));
-            CHECK((memcmp(lines, lines_before, sizeof lines_before) == 0) == (answer != SUDOKU_DONE));
-            CHECK((memcmp(rows, rows_before, sizeof rows_before) == 0) == (answer != SUDOKU_DONE));
-            CHECK((memcmp(columns, columns_before, sizeof columns_before) == 0) == (answer != SUDOKU_DONE));
-            memcpy(lines, lines_before, sizeof lines_before);
-            memcpy(rows, rows_before, sizeof rows_before);
-            memcpy(columns, columns_before, sizeof columns_before);
-        }
-        memcpy(rows, rows_written, sizeof rows_written);
-        memcpy(columns, columns_written, sizeof columns_written);
+        CHECK(repairs(SUDOKU_DONE, 0) && gave(&written));
+        change_each(bad_rows, bad_columns);
+        put_back(&written);
     }
-    CHECK(INTACT(lines) && INTACT(rows) && INTACT(columns) && INTACT(out) && INTACT(marks));
+    CHECK(INTACT(lines) && INTACT(rows) && INTACT(columns));
+}
+
+/* From the last refusal of the list up: each is given though those after it fit too. */
+static void repair_refusals(void)
+{
+    struct sizes sizes = right;
+
+    sizes.marks++;
+    CHECK(refused(sizes, SUDOKU_BUFFER));
+    sizes.out--;
+    CHECK(refused(sizes, SUDOKU_BUFFER));
+    sizes.column_out--;
+    CHECK(refused(sizes, SUDOKU_TABLE));
+    sizes.row_out++;
+    CHECK(refused(sizes, SUDOKU_TABLE));
+    sizes.column_out++;
+    CHECK(refused(sizes, SUDOKU_TABLE));
+    sizes.column_table = LINE;
+    CHECK(refused(sizes, SUDOKU_TABLE));
+    sizes.row_table = 0;
+    CHECK(refused(sizes, SUDOKU_TABLE));
+    sizes.lines = 0;
+    CHECK(refused(sizes, SUDOKU_LINES));
+    sizes.rows = 513;
+    CHECK(refused(sizes, SUDOKU_SIDES));
+    sizes.rows = ROWS;
+    sizes.columns = 1;
+    CHECK(refused(sizes, SUDOKU_SIDES));
 }
 
 static void repairing(void)
 {
-    static uint8_t written[ALL];
-    uint64_t passes = 77;
+    static struct store written, expected;
 
-    memcpy(written, lines, sizeof written);
-    FILL(out);
-    FILL(marks);
-    /* Lengths and sides before parity lines, and with those the number is 0. */
-    rows[LINE] ^= 1;
-    columns[LINE] ^= 1;
-    CHECK(repair(ALL, COUNT, &passes) == SUDOKU_ROW_PARITY && passes == 0 && numbered(1));
-    passes = 77;
-    CHECK(repair(ALL - 1, COUNT, &passes) == SUDOKU_BUFFER && passes == 0 && numbered(0));
-    passes = 77;
-    CHECK(repair(ALL, COUNT + 1, &passes) == SUDOKU_BUFFER && passes == 0 && numbered(0));
-    passes = 77;
-    CHECK(repair_sized(ROWS, COLUMNS, ALL, ROWS * LINE, LINE, &passes) == SUDOKU_TABLE && passes == 0 && numbered(0));
-    passes = 77;
-    CHECK(repair_sized(ROWS, COLUMNS, 0, ROWS * LINE, LINE, &passes) == SUDOKU_LINES && passes == 0 && numbered(0));
-    passes = 77;
-    CHECK(repair_sized(513, COLUMNS, 0, ROWS * LINE, LINE, &passes) == SUDOKU_SIDES && passes == 0 && numbered(0));
-    rows[LINE] ^= 1;
-    columns[LINE] ^= 1;
-    CHECK(UNTOUCHED(out) && UNTOUCHED(marks));
-
-    passes = 77;
-    CHECK(repair(ALL, COUNT, &passes) == SUDOKU_DONE && passes == 0 && numbered(0));
+    keep(&written);
+    CHECK(repairs(SUDOKU_DONE, 0) && gave(&written));
     lines[0] ^= 3;
     lines[LINE] ^= 12;
     lines[2 * LINE] ^= 1;
     lines[4 * LINE + 68] ^= 1;
     lines[5 * LINE + 69] ^= 2;
-    CHECK(repair(ALL, COUNT, &passes) == SUDOKU_DONE && passes == 1 && numbered(0));
-    CHECK(memcmp(out, written, sizeof written) == 0);
+    CHECK(repairs(SUDOKU_DONE, 1) && gave(&written));
     CHECK(marks[0] == SUDOKU_MARK_TRIAL && marks[1] == SUDOKU_MARK_TRIAL);
     CHECK(marks[2] == SUDOKU_MARK_REWRITTEN && marks[3] == SUDOKU_MARK_CLEAN);
     CHECK(marks[4] == SUDOKU_MARK_REWRITTEN && marks[5] == SUDOKU_MARK_REWRITTEN);
-    memcpy(lines, written, sizeof written);
+
+    put_back(&written);
     for (size_t n = 0; n < COUNT; n++)
         if (n % COLUMNS < 2)
             lines[n * LINE] ^= 3;
-    CHECK(repair(ALL, COUNT, &passes) == SUDOKU_LEFT && passes == 1 && marks[4] == SUDOKU_MARK_FAULTY && numbered(0));
-    memcpy(lines, written, sizeof written);
+    keep(&expected);
+    CHECK(repairs(SUDOKU_LEFT, 1) && gave(&expected) && marks[4] == SUDOKU_MARK_FAULTY);
+
+    /* Lines 0 and 1 are correct, but not those written: every parity line of theirs tells. */
+    put_back(&written);
     memset(lines, 0, 2 * LINE);
-    CHECK(repair(ALL, COUNT, &passes) == SUDOKU_DIFFERS && passes == 0 && numbered(0));
-    CHECK(INTACT(out) && INTACT(marks));
+    keep(&expected);
+    CHECK(repairs(SUDOKU_DIFFERS, 0) && gave(&expected));
+    put_back(&written);
+}
+
+/* Line 1 is hurt past reading, and so are parity lines; it has row 0 and column 1. */
+static void repairing_tables(void)
+{
+    static struct store written, expected;
+
+    keep(&written);
+    /* The row is unusable: its column rebuilds the line, and the row's parity line is made afresh. */
+    lines[LINE] ^= 3;
+    rows[0] ^= 3;
+    rows[69] |= 0xFC;
+    CHECK(repairs(SUDOKU_DONE, 1) && gave(&written) && marks[1] == SUDOKU_MARK_REBUILT);
+    /* One bit of the column's parity line is hurt: it is used as read. */
+    columns[LINE + 5] ^= 1;
+    CHECK(repairs(SUDOKU_DONE, 1) && gave(&written) && marks[1] == SUDOKU_MARK_REBUILT);
+    /* A second bit: nothing can rebuild the line, and both parity lines are as found, spare bits 0. */
+    columns[LINE + 6] ^= 1;
+    keep(&expected);
+    expected.rows[69] &= 0x03;
+    CHECK(repairs(SUDOKU_LEFT, 1) && gave(&expected) && marks[1] == SUDOKU_MARK_FAULTY);
+
+    /* Another correct line in its place: both parity lines are made afresh from it, and nothing tells. */
+    memset(lines + LINE, 0, LINE);
+    keep(&expected);
+    for (size_t i = 0; i < LINE; i++) {
+        expected.rows[i] = lines[i] ^ lines[2 * LINE + i];
+        expected.columns[LINE + i] = lines[4 * LINE + i];
+    }
+    CHECK(repairs(SUDOKU_DONE, 0) && gave(&expected));
+    /* Where the column's parity line is accepted, it tells. */
+    memcpy(columns, written.columns, COLUMNS * LINE);
+    memcpy(expected.columns, written.columns, COLUMNS * LINE);
+    CHECK(repairs(SUDOKU_DIFFERS, 0) && gave(&expected));
+    put_back(&written);
+}
+
+/*
+ * How deep a call goes: it is made on a stack that was painted before. The same memory is mapped a second time and looked at there,
+ * since to a memory checker what lies below a thread's stack pointer is nobody's.
+ */
+enum { STACK_BYTES = 512 * 1024, PAINT = 0x5C };
+
+static uint8_t *stack_made, *stack_seen;
+
+static void *mapped(FILE *file)
+{
+    void *memory = mmap(NULL, STACK_BYTES, PROT_READ | PROT_WRITE, MAP_SHARED, fileno(file), 0);
+
+    return memory == MAP_FAILED ? NULL : memory;
+}
+
+static int make_stack(void)
+{
+    FILE *file = tmpfile();
+
+    if (file == NULL || ftruncate(fileno(file), STACK_BYTES) != 0)
+        return 0;
+    stack_made = mapped(file);
+    stack_seen = mapped(file);
+    fclose(file);
+    return stack_made != NULL && stack_seen != NULL;
+}
+
+struct deep {
+    void (*call)(void);
+    uintptr_t top;
+};
+
+static void *call_deep(void *given)
+{
+    struct deep *deep = given;
+    volatile uint8_t here = 0;
+
+    deep->top = (uintptr_t)&here;
+    deep->call();
+    return NULL;
+}
+
+/* So many bytes of stack a call takes; 0 if it could not be made. */
+static size_t depth_of(void (*call)(void))
+{
+    struct deep deep = {call, 0};
+    pthread_attr_t attributes;
+    pthread_t thread;
+    size_t untouched = 0;
+
+    /* Made once before, so that no function has to be looked up while it is measured. */
+    call();
+    memset(stack_seen, PAINT, STACK_BYTES);
+    if (pthread_attr_init(&attributes) != 0 || pthread_attr_setstack(&attributes, stack_made, STACK_BYTES) != 0
+        || pthread_create(&thread, &attributes, call_deep, &deep) != 0 || pthread_join(thread, NULL) != 0)
+        return 0;
+    pthread_attr_destroy(&attributes);
+    while (untouched < STACK_BYTES && stack_seen[untouched] == PAINT)
+        untouched++;
+    return deep.top - (uintptr_t)stack_made - untouched;
+}
+
+/* A store of the greatest size, and all that repair writes of it. */
+enum { SIDE = SUDOKU_GREATEST_SIDE, BIG = SIDE * SIDE };
+
+static uint8_t big_lines[BIG * LINE], big_rows[SIDE * LINE], big_columns[SIDE * LINE];
+static uint8_t big_out[BIG * LINE], big_marks[BIG], big_row_out[SIDE * LINE], big_column_out[SIDE * LINE];
+static uint8_t big_written[BIG * LINE], big_rows_written[SIDE * LINE], big_columns_written[SIDE * LINE];
+static uint32_t big_answer;
+static uint64_t big_passes;
+
+static void big_tables(void)
+{
+    big_answer = sudoku_make_tables(SIDE, SIDE, big_lines, sizeof big_lines, big_rows, sizeof big_rows, big_columns,
+                                    sizeof big_columns);
+}
+
+static void big_repair(void)
+{
+    big_answer = sudoku_repair(SIDE, SIDE, big_lines, sizeof big_lines, big_rows, sizeof big_rows, big_columns, sizeof big_columns,
+                               big_out, sizeof big_out, big_marks, sizeof big_marks, big_row_out, sizeof big_row_out,
+                               big_column_out, sizeof big_column_out, &big_passes);
+}
+
+static void big_change(void)
+{
+    static const uint8_t data[SUDOKU_DATA_BYTES] = {1};
+    uint64_t ignored;
+
+    big_answer = sudoku_change_line(SIDE, SIDE, big_lines, sizeof big_lines, big_rows, sizeof big_rows, big_columns,
+                                    sizeof big_columns, BIG - 1, data, sizeof data, &ignored);
+}
+
+static void write_one(void)
+{
+    big_answer = sudoku_write_line(big_lines, SUDOKU_DATA_BYTES, line, LINE);
+}
+
+static void read_one(void)
+{
+    uint8_t mark;
+
+    big_answer = sudoku_read_line(big_lines, LINE, line, LINE, &mark);
+}
+
+static void put_big_back(void)
+{
+    memcpy(big_lines, big_written, sizeof big_lines);
+    memcpy(big_rows, big_rows_written, sizeof big_rows);
+    memcpy(big_columns, big_columns_written, sizeof big_columns);
+}
+
+static int big_whole(uint64_t passes)
+{
+    return big_answer == SUDOKU_DONE && big_passes == passes && memcmp(big_out, big_written, sizeof big_out) == 0
+        && memcmp(big_row_out, big_rows_written, sizeof big_row_out) == 0
+        && memcmp(big_column_out, big_columns_written, sizeof big_column_out) == 0;
+}
+
+/* Lines to be read alone, rebuilt and mended by trial, and parity lines accepted and unusable. */
+static void hurt_big(void)
+{
+    for (size_t n = 0; n < BIG; n += 97)
+        big_lines[n * LINE + n % SUDOKU_DATA_BYTES] ^= 16;
+    /* So far apart that no two of them share a row or a column; none stands in row 302. */
+    for (size_t n = 0; n < BIG; n += 2003)
+        big_lines[n * LINE + 64] ^= 6;
+    big_lines[(302 * SIDE + 10) * LINE] ^= 3;
+    big_lines[(302 * SIDE + 20) * LINE] ^= 12;
+    for (size_t group = 0; group < SIDE; group += 5)
+        big_rows[group * LINE + 7] ^= 3;
+    for (size_t group = 0; group < SIDE; group += 3)
+        big_columns[group * LINE + 9] ^= 1;
+}
+
+/* A staircase of lines hurt alike: each pass opens its two ends. */
+static void chain_big(void)
+{
+    for (size_t i = 0; i < SIDE; i++) {
+        big_lines[(i * SIDE + i) * LINE] ^= 3;
+        if (i + 1 < SIDE)
+            big_lines[(i * SIDE + i + 1) * LINE] ^= 3;
+    }
+}
+
+/* A ring of four lines hurt alike, which nothing opens. */
+static void lose_big(void)
+{
+    static const size_t ring[4] = {0, 1, SIDE, SIDE + 1};
+
+    for (size_t i = 0; i < 4; i++)
+        big_lines[ring[i] * LINE] ^= 3;
+}
+
+static void make_big(void)
+{
+    int written = 1;
+
+    for (size_t n = 0; n < BIG; n++) {
+        uint8_t data[SUDOKU_DATA_BYTES];
+
+        for (size_t i = 0; i < sizeof data; i++)
+            data[i] = (uint8_t)(n * 31 + i * 7 + n / 251);
+        written &= sudoku_write_line(data, sizeof data, big_lines + n * LINE, LINE) == SUDOKU_DONE;
+    }
+    big_tables();
+    CHECK(written && big_answer == SUDOKU_DONE);
+    memcpy(big_written, big_lines, sizeof big_written);
+    memcpy(big_rows_written, big_rows, sizeof big_rows_written);
+    memcpy(big_columns_written, big_columns, sizeof big_columns_written);
+}
+
+/* That a depth is told: so many bytes of an array, and little more. */
+enum { DEEP = 20000 };
+
+static void touch_deep(void)
+{
+    volatile uint8_t array[DEEP];
+
+    for (size_t i = 0; i < DEEP; i++)
+        array[i] = (uint8_t)i;
+    big_answer = array[DEEP - 1];
+}
+
+/* The stack that repair took at most. */
+static size_t repair_depth;
+
+static int repair_fits(void)
+{
+    const size_t depth = depth_of(big_repair);
+
+    if (depth > repair_depth)
+        repair_depth = depth;
+    return 0 < depth && depth < 48 * 1024;
+}
+
+static void stack_depths(void)
+{
+    size_t depth;
+
+    CHECK(make_stack());
+    if (stack_made == NULL || stack_seen == NULL)
+        return;
+    depth = depth_of(touch_deep);
+    CHECK(DEEP <= depth && depth < DEEP + 512);
+    make_big();
+
+    CHECK(repair_fits() && big_whole(0));
+    hurt_big();
+    CHECK(repair_fits() && big_whole(1) && big_marks[302 * SIDE + 10] == SUDOKU_MARK_TRIAL);
+    put_big_back();
+    chain_big();
+    CHECK(repair_fits() && big_whole(SIDE / 2) && big_marks[0] == SUDOKU_MARK_REBUILT);
+    put_big_back();
+    lose_big();
+    CHECK(repair_fits() && big_answer == SUDOKU_LEFT && big_passes == 1 && big_marks[SIDE + 1] == SUDOKU_MARK_FAULTY);
+    put_big_back();
+
+    CHECK(depth_of(big_tables) < 110 * 1024 && big_answer == SUDOKU_DONE);
+    CHECK(depth_of(big_change) < 2 * 1024 && big_answer == SUDOKU_DONE);
+    CHECK(depth_of(read_one) < 2 * 1024 && big_answer == SUDOKU_DONE);
+    CHECK(depth_of(write_one) < 2 * 1024 && big_answer == SUDOKU_DONE);
 }
 
 int main(void)
 {
+    FILL(line);
     FILL(lines);
     FILL(rows);
     FILL(columns);
-    FILL(out);
-    FILL(marks);
+    fill_written();
     writing();
     reading();
     reading_hamming_bits();
     tables();
     changing();
     bad_parity();
+    repair_refusals();
     repairing();
-    printf("C interface: %d checks, %d failed\n", checks, failures);
+    repairing_tables();
+    stack_depths();
+    printf("C interface: %d checks, %d failed; repair took %lu bytes of stack\n", checks, failures, (unsigned long)repair_depth);
     return failures == 0 ? 0 : 1;
 }
