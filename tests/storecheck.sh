@@ -1,6 +1,6 @@
 #!/bin/sh
 # The launcher and the program as people use them: the examples, bad calls, input in pieces, how much is read, input and output
-# that fail, the examples of docs/FORMAT.md, bad parity lines, and building.
+# that fail, the examples of docs/FORMAT.md, hurt parity lines, and building.
 set -u
 cd "$(dirname "$0")/.."
 room=$(mktemp -d)
@@ -132,27 +132,47 @@ head -c 70 /dev/zero >"$room/70"
 cat "$room/header" "$room/line" "$room/210" "$room/line" "$room/70" "$room/line" "$room/70" >"$room/caption"
 same "the line of docs/FORMAT.md" "$(cat crates/storecheck/stdout)" "$(bin/storecheck "$room/caption")"
 
-# The store of zero bytes with the first bit of some bytes set: row 0's parity line begins at byte 308, column 0's at byte 448.
-with_bits() { # OFFSET..
-    cp "$room/zero" "$room/parity"
+# A 2 by 2 store with the first bit of some bytes turned over; beside each, what document 01 with request Q-3 asks for. Line 0 begins
+# at byte 28, line 1 at 98, line 2 at 168, line 3 at 238; row 0's parity line at 308, row 1's at 378, column 0's at 448, column 1's
+# at 518. One bit of a line mends itself; two make it faulty.
+with_bits() { # STORE OFFSET..
+    cp "$1" "$room/parity"
+    shift
     for at; do
-        printf '\001' | dd of="$room/parity" bs=1 seek="$at" conv=notrunc 2>/dev/null
+        byte=$(od -An -tu1 -j "$at" -N 1 "$room/parity")
+        printf "\\$(printf '%03o' $((byte ^ 1)))" | dd of="$room/parity" bs=1 seek="$at" conv=notrunc 2>/dev/null
     done
     bin/storecheck "$room/parity" 2>"$room/said"
     echo "status $?, $(wc -c <"$room/said") bytes said"
 }
-quiet="status 0, 0 bytes said"
-same "row 0's parity line is bad" "answer 13${nl}$quiet" "$(with_bits 308)"
-same "row 1's parity line is bad" "answer 13${nl}$quiet" "$(with_bits 378)"
-same "column 0's parity line is bad" "answer 14${nl}$quiet" "$(with_bits 448)"
-same "column 1's parity line is bad" "answer 14${nl}$quiet" "$(with_bits 518)"
-same "a row's and a column's parity line are bad" "answer 13${nl}$quiet" "$(with_bits 378 448)"
-same "a bad row and lines that cannot be mended" "answer 13${nl}$quiet" "$(with_bits 28 29 98 99 168 169 238 239 378)"
-same "a bad column on standard input" "answer 14" "$(with_bits 518 >/dev/null; bin/storecheck <"$room/parity")"
-for answer in 1 2 3 4 13 14 11 12; do
+expected() { # CLEAN ALONE TRIAL REBUILT FAULTY PASSES ANSWER
+    printf 'store 2 2\nclean %s\nalone %s\ntrial %s\nrebuilt %s\nfaulty %s\npasses %s\nanswer %s\n' "$@"
+    echo "status 0, 0 bytes said"
+}
+for at in 308 378 448 518; do
+    same "one bit of the parity line at $at" "$(expected 4 0 0 0 0 0 0)" "$(with_bits "$room/zero" $at)"
+    same "two bits of the parity line at $at" "$(expected 4 0 0 0 0 0 0)" "$(with_bits "$room/zero" $at $((at + 1)))"
+done
+every="308 309 378 379 448 449 518 519"
+same "no usable parity line" "$(expected 4 0 0 0 0 0 0)" "$(with_bits "$room/zero" $every)"
+same "no usable parity line, line 0 faulty" "$(expected 3 0 0 0 1 1 11)" "$(with_bits "$room/zero" 28 29 $every)"
+same "row 0 unusable: its column rebuilds line 0" "$(expected 3 0 0 1 0 1 0)" "$(with_bits "$room/zero" 28 29 308 309)"
+same "column 0 unusable, a bit of row 0's" "$(expected 3 0 0 1 0 1 0)" "$(with_bits "$room/zero" 28 29 308 448 449)"
+same "row 0 and column 0 unusable" "$(expected 3 0 0 0 1 1 11)" "$(with_bits "$room/zero" 28 29 308 309 448 449)"
+same "lines 0 to 2 hurt alike" "$(expected 1 0 0 3 0 1 0)" "$(with_bits "$room/zero" 28 29 98 99 168 169)"
+same "lines 0 to 2, row 1 unusable" "$(expected 1 0 0 3 0 2 0)" "$(with_bits "$room/zero" 28 29 98 99 168 169 378 379)"
+same "all lines hurt alike" "$(expected 0 0 0 0 4 1 11)" "$(with_bits "$room/zero" 28 29 98 99 168 169 238 239 378)"
+# The line of docs/FORMAT.md in line 0's place, and parity lines of zero bytes.
+cat "$room/header" "$room/line" "$room/210" "$room/210" "$room/70" >"$room/foreign"
+same "another line" "$(expected 4 0 0 0 0 0 12)" "$(with_bits "$room/foreign")"
+same "another line, row 0 unusable" "$(expected 4 0 0 0 0 0 12)" "$(with_bits "$room/foreign" 308 309)"
+same "another line, row 0 and column 0 unusable" "$(expected 4 0 0 0 0 0 0)" "$(with_bits "$room/foreign" 308 309 448 449)"
+for answer in 1 2 3 4 11 12; do
     same "answer $answer in the help" 1 "$(bin/storecheck --help | grep -c "^    $answer  ")"
 done
-same "answer 9 in the help" 0 "$(bin/storecheck --help | grep -c "^    9 ")"
+for answer in 9 13 14; do
+    same "answer $answer in the help" 0 "$(bin/storecheck --help | grep -c "^    $answer ")"
+done
 
 # The store of zero bytes with place 543 of line 0 hurt, a Hamming bit: bit 0 of byte 68. The line mends itself.
 { cat "$room/header"; head -c 68 /dev/zero; printf '\001'; head -c 491 /dev/zero; } >"$room/hamming"
