@@ -6,7 +6,8 @@
 //! cargo run --release -p bench -- --runs 10   # several, each a new process
 //! ```
 //!
-//! Before anything is timed, library and peer are compared once on each store.
+//! Before anything is timed, library and peer are compared once on each store,
+//! and on one with hurt parity lines.
 //! A round times the library, the peer and the copy one after another, and has
 //! its own ratios. A run's figure is the median of its rounds: of the times, and
 //! of the rounds' ratios. Prints a table in Markdown, in brackets the quartiles
@@ -142,6 +143,7 @@ fn run() -> Vec<Vec<Figures>> {
     for (store, (_, answer, passes, _)) in large().zip(REPAIRS) {
         compare(store, (answer, passes));
     }
+    compare(&clean.parity_hurt(), (0, 1));
 
     let few_data = &data[..FEW * DATA_BYTES];
     let few_lines = &clean.lines[..FEW * LINE_BYTES];

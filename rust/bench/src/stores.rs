@@ -113,6 +113,20 @@ impl Store {
         })
     }
 
+    /// The lightly hurt store, with one row's parity line in five hurt past
+    /// reading and one column's in three hurt in one bit.
+    pub fn parity_hurt(&self) -> Store {
+        let mut store = self.lightly_hurt();
+        store
+            .row_table
+            .chunks_mut(5 * LINE_BYTES)
+            .for_each(flip_two);
+        for line in store.column_table.chunks_mut(3 * LINE_BYTES) {
+            flip(line, 9);
+        }
+        store
+    }
+
     /// The store with each line hurt in this way, which is told its number.
     fn hurt(&self, mut way: impl FnMut(&mut [u8], usize)) -> Store {
         let mut lines = self.lines.clone();

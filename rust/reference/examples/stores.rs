@@ -70,6 +70,18 @@ fn lost() -> Store {
     store
 }
 
+/// The two lines of a row that `hurt` has, and parity lines hurt too: that row's
+/// can't be read, so their columns rebuild them, and one of these has a
+/// damaged bit itself.
+fn parity() -> Store {
+    let mut store = show();
+    store.hurt(4, &[10, 300]);
+    store.hurt(6, &[55, 410]);
+    store.hurt_row_parity(1, &[7, 200, 540]);
+    store.hurt_column_parity(2, &[99]);
+    store
+}
+
 /// One line in place of another: each line is whole, the tables differ.
 fn misplaced() -> Store {
     let mut store = show();
@@ -84,6 +96,7 @@ fn main() -> std::io::Result<()> {
         ("hurt", hurt()),
         ("lost", lost()),
         ("misplaced", misplaced()),
+        ("parity", parity()),
     ];
     for (name, store) in stores {
         let file = store.file();

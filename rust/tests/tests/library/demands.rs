@@ -1,7 +1,7 @@
 //! Demand 3 as a property, damage beyond it, and all pairs of places of one
 //! line.
 
-use library_tests::{Interface, Library, cases, seed};
+use library_tests::{Interface, Library, as_many_as_usual, cases, seed};
 use reference::draw::{self, Outcome, Store};
 use reference::random::Random;
 use reference::{LINE_BYTES, PLACES, PROTECTED_PLACES};
@@ -57,7 +57,7 @@ fn demand_3_returns_exactly_the_rectangle_written() {
          lines by mark {by_mark:?}, longest order {longest}, most passes {most_passes}"
     );
     assert_eq!(by_mark[4], 0);
-    assert!(unusable > count / 10);
+    assert!(!as_many_as_usual() || unusable > count / 10);
 }
 
 #[test]

@@ -133,7 +133,12 @@ fn spare_bits_of_parity_lines_do_not_count() {
 
 #[test]
 fn bad_parity_lines_of_large_stores() {
-    expect_all(q2::large(if watched() { 260 } else { 512 }));
+    if watched() {
+        // Those of two rows or two columns, which repair reads soon.
+        expect_all(q2::large(260).filter(|spoilt| spoilt.store.count() <= 520));
+    } else {
+        expect_all(q2::large(512));
+    }
 }
 
 #[test]
@@ -143,7 +148,7 @@ fn repairs_worked_out_by_hand() {
 
 #[test]
 fn a_parity_line_on_the_way_to_another() {
-    expect_cases(q3::on_the_way_to_another());
+    expect_cases(q3::on_the_way_to_another().step_by(step()));
 }
 
 #[test]

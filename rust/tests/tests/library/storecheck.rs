@@ -83,7 +83,7 @@ fn a_report_is_whole_whatever_the_parity_lines() {
 
 #[test]
 fn examples_have_their_reports() {
-    for name in ["clean", "hurt", "lost", "misplaced"] {
+    for name in ["clean", "hurt", "lost", "misplaced", "parity"] {
         let path = root().join("examples").join(name);
         let file = std::fs::read(path.with_extension("store")).expect("an example");
         let report = std::fs::read_to_string(path.with_extension("report")).expect("its report");
