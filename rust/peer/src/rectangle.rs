@@ -89,24 +89,10 @@ pub fn repair(
     column_table: &[u8],
     out: Out,
 ) -> Repair {
-    let refused = |answer| Repair { answer, passes: 0 };
-    if !sides_fit(rows, columns) {
-        return refused(answer::SIDES);
+    let tables = [row_table.len(), column_table.len()];
+    if let Some(answer) = refusal(rows, columns, lines.len(), tables, &out) {
+        return Repair { answer, passes: 0 };
     }
-    let all_lines = rows * columns * LINE_BYTES;
-    if lines.len() != all_lines {
-        return refused(answer::LINES);
-    }
-    let tables = [rows * LINE_BYTES, columns * LINE_BYTES];
-    if [row_table.len(), column_table.len()] != tables
-        || [out.row_table.len(), out.column_table.len()] != tables
-    {
-        return refused(answer::TABLE);
-    }
-    if out.lines.len() != all_lines || out.marks.len() != rows * columns {
-        return refused(answer::BUFFER);
-    }
-
     let of_rows = lines_of_mut(out.row_table);
     let of_columns = lines_of_mut(out.column_table);
     let mut rectangle = Rectangle {
@@ -127,6 +113,30 @@ pub fn repair(
         answer: rectangle.answer(),
         passes,
     }
+}
+
+/// The first refusal that fits, given the lengths of the lines and the tables
+/// read.
+fn refusal(
+    rows: usize,
+    columns: usize,
+    lines: usize,
+    tables: [usize; 2],
+    out: &Out,
+) -> Option<u32> {
+    if !sides_fit(rows, columns) {
+        return Some(answer::SIDES);
+    }
+    let all_lines = rows * columns * LINE_BYTES;
+    if lines != all_lines {
+        return Some(answer::LINES);
+    }
+    let right = [rows * LINE_BYTES, columns * LINE_BYTES];
+    if tables != right || [out.row_table.len(), out.column_table.len()] != right {
+        return Some(answer::TABLE);
+    }
+    let fits = out.lines.len() == all_lines && out.marks.len() == rows * columns;
+    (!fits).then_some(answer::BUFFER)
 }
 
 /// Reads every parity line alone and writes it out, as read or as found; gives

@@ -31,10 +31,8 @@ fn demand_3_returns_exactly_the_rectangle_written() {
         let outcome = drawn.hurt.repaired(0x5A);
         expect_written(&outcome, &drawn.written, case);
         assert!(outcome.passes as usize <= drawn.order.len());
-        parity_hurt += usize::from(!draw::same_places(
-            &drawn.hurt.row_table,
-            &drawn.written.row_table,
-        ));
+        let whole = draw::same_places(&drawn.hurt.row_table, &drawn.written.row_table);
+        parity_hurt += usize::from(!whole);
         for mark in outcome.marks {
             marks[usize::from(mark)] += 1;
         }
@@ -130,7 +128,12 @@ fn order_fits_counts_groups_by_their_parity_lines() {
         hurt.hurt(n, &[1, 2]);
         assert_eq!(fits(&hurt, &[n]), allowed, "line {n}");
     }
-    // With at most one damaged bit a group counts.
+}
+
+#[test]
+fn order_fits_counts_groups_with_one_damaged_parity_bit() {
+    let written = Store::random(&mut Random::new(7), 2, 2);
+    let fits = |hurt: &Store, order: &[usize]| draw::order_fits(&written, hurt, order);
     let mut one = written.clone();
     one.hurt_row_parity(0, &[1]);
     one.hurt_column_parity(0, &[1, 2]);

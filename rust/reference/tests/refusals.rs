@@ -168,7 +168,7 @@ fn refusals_from_8_on_in_checking_order() {
 }
 
 #[test]
-fn refusals_up_to_7_in_checking_order() {
+fn refusals_7_in_checking_order() {
     let mut call = call_of(2, 3);
     hurt(&mut call.lines, 1, &[0, 1]);
     call.n = 6;
@@ -186,12 +186,18 @@ fn refusals_up_to_7_in_checking_order() {
         call.marks = vec![FILLING; length];
         assert_eq!(answers(&call), [10, 7, 7]);
     }
+}
 
-    // Tables written by repair alone: 6 before 7. Then all others.
+#[test]
+fn refusals_up_to_6_in_checking_order() {
+    let mut call = call_of(2, 3);
+    call.data.clear();
+    call.marks.clear();
+    // Tables that repair alone writes: 6 before 7. Then those of all three.
     for length in [0, 139, 141, 210] {
         let mut table = call.clone();
         table.row_out = vec![FILLING; length];
-        assert_eq!(answers(&table), [10, 7, 6]);
+        assert_eq!(answers(&table), [0, 7, 6]);
         table = call.clone();
         table.row_table = vec![0; length];
         assert_eq!(answers(&table), [6, 6, 6]);
@@ -199,12 +205,12 @@ fn refusals_up_to_7_in_checking_order() {
     for length in [0, 209, 211, 140] {
         let mut table = call.clone();
         table.column_out = vec![FILLING; length];
-        assert_eq!(answers(&table), [10, 7, 6]);
-        call.column_table = vec![0; length];
-        assert_eq!(answers(&call), [6, 6, 6]);
-        call.column_table = vec![0; 210];
+        assert_eq!(answers(&table), [0, 7, 6]);
+        table = call.clone();
+        table.column_table = vec![0; length];
+        assert_eq!(answers(&table), [6, 6, 6]);
     }
-    call.column_table = vec![0; 211];
+    call.column_table.clear();
 
     // Lines: 5 before 6.
     for length in [0, 419, 421] {

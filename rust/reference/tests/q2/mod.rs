@@ -179,19 +179,23 @@ pub fn every_place() -> impl Iterator<Item = Spoilt> {
     })
 }
 
+/// Sets those of the seven spare bits of these lines whose bit is set.
+pub fn set_spare_bits(lines: &mut [u8], bits: usize) {
+    for line in lines.chunks_exact_mut(LINE_BYTES) {
+        for (i, (byte, bit)) in SPARE.into_iter().enumerate() {
+            line[byte] |= u8::from(bits >> i & 1 == 1) << bit;
+        }
+    }
+}
+
 /// Spare bits of all parity lines set in every way: they make no line bad, and
 /// they don't hide one that is.
 pub fn spare_bits() -> impl Iterator<Item = Spoilt> {
     let written = Store::random(&mut Random::new(15), 2, 2);
     (1..1usize << SPARE.len()).flat_map(move |bits| {
         let mut spare = written.clone();
-        for table in [&mut spare.row_table, &mut spare.column_table] {
-            for line in table.chunks_exact_mut(LINE_BYTES) {
-                for (i, (byte, bit)) in SPARE.into_iter().enumerate() {
-                    line[byte] |= u8::from(bits >> i & 1 == 1) << bit;
-                }
-            }
-        }
+        set_spare_bits(&mut spare.row_table, bits);
+        set_spare_bits(&mut spare.column_table, bits);
         let spoilt = |rows: &[usize], columns: &[usize]| {
             Spoilt::new(&spare, rows.to_vec(), columns.to_vec(), || vec![552])
         };

@@ -154,8 +154,9 @@ fn case(says: &str, hurt: Places, (answer, passes): (u32, u64), marks: &[u8]) ->
 
 /// All cases with a name.
 pub fn all() -> impl Iterator<Item = Case> {
-    let all = [accepted(), unusable(), passes(), afresh(), differing()];
-    all.into_iter().flatten()
+    let mending = [accepted(), unusable(), trials(), passes(), afresh()];
+    let comparing = [other_line(), other_parity_line(), rebuilt_as_another()];
+    mending.into_iter().chain(comparing).flatten()
 }
 
 /// An accepted parity line is used as read, and written so.
@@ -198,11 +199,11 @@ fn accepted() -> Vec<Case> {
     ]
 }
 
-/// The visits of a group whose parity line is faulty do nothing.
+/// An unusable group rebuilds no line.
 fn unusable() -> Vec<Case> {
     let line = || nothing().line(0, TWO);
-    let pair = || line().line(1, ELSE);
-    let without_columns = |hurt: Places| hurt.column(0, TWO).column(1, TWO);
+    let column = line().line(2, TWO);
+    let others = nothing().line(1, &[2, 3, 4]).line(4, TWO);
     vec![
         case(
             "an unusable row: the column rebuilds",
@@ -217,19 +218,36 @@ fn unusable() -> Vec<Case> {
             &[3, 0, 0, 0],
         ),
         case(
-            "both unusable: the line is left, the tables are as found",
+            "an unusable row and column: the line is left, the tables are as found",
             line().row(0, TWO).column(0, &[5, 6, 7, 8, 9]),
             (11, 1),
             &[4, 0, 0, 0],
         )
         .left_as_found(),
         case(
-            "two lines of a column, hurt alike, that only their rows could rebuild",
-            line().line(2, TWO).row(0, ELSE).row(1, ELSE),
+            "two lines of a column, hurt alike, that only unusable rows could rebuild",
+            column.row(0, ELSE).row(1, ELSE),
             (11, 1),
             &[4, 0, 4, 0],
         )
         .left_as_found(),
+        case(
+            "beside unusable groups, others go by their own parity lines",
+            others.row(0, TWO).column(2, TWO),
+            (0, 1),
+            &[0, 3, 0, 0, 3, 0],
+        )
+        .of_sides(2, 3),
+    ]
+}
+
+/// An unusable group tries nothing.
+fn trials() -> Vec<Case> {
+    let pair = || nothing().line(0, TWO).line(1, ELSE);
+    let without_row = || pair().row(0, &[7, 8]);
+    let without_columns = |hurt: Places| hurt.column(0, TWO).column(1, TWO);
+    vec![
+        case("trials against a row", pair(), (0, 1), &[2, 2, 0, 0]),
         case(
             "trials against a row, where no column can help",
             without_columns(pair()),
@@ -237,29 +255,18 @@ fn unusable() -> Vec<Case> {
             &[2, 2, 0, 0],
         ),
         case(
-            "no trial against an unusable row",
-            without_columns(pair().row(0, &[7, 8])),
+            "no trial against an unusable row, where no column can help",
+            without_columns(without_row()),
             (11, 1),
             &[4, 4, 0, 0],
         )
         .left_as_found(),
         case(
             "no trial against an unusable row: each column rebuilds its line",
-            pair().row(0, &[7, 8]),
+            without_row(),
             (0, 1),
             &[3, 3, 0, 0],
         ),
-        case(
-            "other rows and columns go by their own parity lines",
-            nothing()
-                .line(1, &[2, 3, 4])
-                .line(4, TWO)
-                .row(0, TWO)
-                .column(2, TWO),
-            (0, 1),
-            &[0, 3, 0, 0, 3, 0],
-        )
-        .of_sides(2, 3),
     ]
 }
 
@@ -329,81 +336,107 @@ fn afresh() -> Vec<Case> {
     ]
 }
 
-/// Answer 12 compares the accepted parity lines and no other.
-fn differing() -> Vec<Case> {
+/// Answer 12 compares the accepted parity lines and no other: a line that isn't
+/// the one written.
+fn other_line() -> Vec<Case> {
     let other = || nothing().line(0, &EIGHT);
-    let line = || nothing().line(0, TWO);
+    let beside = nothing().line(0, TWO).line(3, &EIGHT);
     vec![
         case(
-            "a line that isn't the one written",
+            "another line: its row and column tell",
             other(),
             (12, 0),
             &[0; 4],
         )
         .left(other()),
         case(
-            "its row and column are unusable: they are made of the lines given",
+            "another line: its row and column are unusable: they are made of the lines given",
             other().row(0, TWO).column(0, ELSE),
             (0, 0),
             &[0; 4],
         )
         .left(other().row(0, &EIGHT).column(0, &EIGHT)),
         case(
-            "its row is unusable, its column tells",
+            "another line: its column tells",
             other().row(0, TWO),
             (12, 0),
             &[0; 4],
         )
         .left(other().row(0, &EIGHT)),
         case(
-            "its column is unusable, its row tells",
+            "another line: its row tells",
             other().column(0, TWO),
             (12, 0),
             &[0; 4],
         )
         .left(other().column(0, &EIGHT)),
         case(
-            "a parity line that isn't the one written, and an unusable one",
-            nothing().row(1, &EIGHT).column(1, TWO),
-            (12, 0),
-            &[0; 4],
-        )
-        .left(nothing().row(1, &EIGHT)),
-        case(
-            "a parity line read as another",
-            nothing().column(1, &EIGHT[1..]),
-            (12, 0),
-            &[0; 4],
-        )
-        .left(nothing().column(1, &EIGHT)),
-        case(
-            "a line rebuilt from a parity line that isn't the one written",
-            line().row(0, &EIGHT),
-            (12, 1),
-            &[3, 0, 0, 0],
-        )
-        .left(other().row(0, &EIGHT)),
-        case(
-            "the same where its column is unusable: nothing tells",
-            line().row(0, &EIGHT).column(0, TWO),
-            (0, 1),
-            &[3, 0, 0, 0],
-        )
-        .left(other().row(0, &EIGHT).column(0, &EIGHT)),
-        case(
-            "the same where its column's parity line agrees: nothing tells",
-            line().row(0, &EIGHT).column(0, &EIGHT),
-            (0, 1),
-            &[3, 0, 0, 0],
-        )
-        .left(other().row(0, &EIGHT).column(0, &EIGHT)),
-        case(
-            "a line is left faulty: nothing is compared",
-            line().line(3, &EIGHT).row(0, TWO).column(0, ELSE),
+            "another line beside a faulty one that is left: nothing is compared",
+            beside.row(0, TWO).column(0, ELSE),
             (11, 1),
             &[4, 0, 0, 0],
         )
         .left_as_found(),
+    ]
+}
+
+/// The same of a parity line that isn't the one written.
+fn other_parity_line() -> Vec<Case> {
+    let other = || nothing().row(1, &EIGHT);
+    let seven = nothing().column(1, &EIGHT[1..]);
+    vec![
+        case(
+            "another parity line: it is used, and tells",
+            other(),
+            (12, 0),
+            &[0; 4],
+        )
+        .left(other()),
+        case(
+            "another parity line: beside an unusable one",
+            other().column(1, TWO),
+            (12, 0),
+            &[0; 4],
+        )
+        .left(other()),
+        case(
+            "another parity line, as which one is read",
+            seven,
+            (12, 0),
+            &[0; 4],
+        )
+        .left(nothing().column(1, &EIGHT)),
+    ]
+}
+
+/// A line rebuilt from a parity line that isn't the one written.
+fn rebuilt_as_another() -> Vec<Case> {
+    let found = || nothing().line(0, TWO).row(0, &EIGHT);
+    let given = || nothing().line(0, &EIGHT).row(0, &EIGHT);
+    let rebuilt = &[3, 0, 0, 0];
+    let agreeing = || given().column(0, &EIGHT);
+    vec![
+        case(
+            "rebuilt as another: its column tells",
+            found(),
+            (12, 1),
+            rebuilt,
+        )
+        .left(given()),
+        case(
+            "rebuilt as another: its column is unusable",
+            found().column(0, TWO),
+            (0, 1),
+            rebuilt,
+        )
+        .left(agreeing()),
+        case(
+            "rebuilt as another: its column agrees",
+            found().column(0, &EIGHT),
+            (0, 1),
+            rebuilt,
+        )
+        .left(agreeing()),
     ]
 }
 

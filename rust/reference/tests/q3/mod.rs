@@ -10,7 +10,7 @@
 pub mod cases;
 
 use reference::draw::{self, Call, Outcome, Store, call_on, flip};
-use reference::line::{self, Line, SPARE, ZERO, exclusive_or, places};
+use reference::line::{self, Line, ZERO, exclusive_or, places};
 use reference::random::Random;
 use reference::{DATA_BYTES, LINE_BYTES, PLACES, read_line, write_line};
 
@@ -18,25 +18,14 @@ use super::q2::{self, Ladder};
 
 pub use cases::{Case, all, every_place, on_the_way_to_another};
 
-/// Sets all spare bits of these lines.
-fn with_spare_bits(mut lines: Vec<u8>) -> Vec<u8> {
-    for line in lines.chunks_exact_mut(LINE_BYTES) {
-        for (byte, bit) in SPARE {
-            line[byte] |= 1 << bit;
-        }
-    }
-    lines
-}
-
 /// Every line and parity line of a store with its spare bits set.
 fn all_spare_bits(store: &Store) -> Store {
-    let store = store.clone();
-    Store {
-        lines: with_spare_bits(store.lines),
-        row_table: with_spare_bits(store.row_table),
-        column_table: with_spare_bits(store.column_table),
-        ..store
+    let mut store = store.clone();
+    let tables = [&mut store.row_table, &mut store.column_table];
+    for lines in tables.into_iter().chain([&mut store.lines]) {
+        q2::set_spare_bits(lines, 0x7F);
     }
+    store
 }
 
 /// These cases, on a store of zero lines and on a drawn one, with spare bits 0
@@ -192,22 +181,34 @@ fn refusal(call: &Call) -> Option<u32> {
     }
 }
 
+/// What became of a parity line.
+#[derive(Clone, Copy, PartialEq)]
+enum Parity {
+    /// Accepted, and correct as found.
+    Clean,
+    /// Accepted, and rewritten.
+    Rewritten,
+    /// Faulty, and given as found.
+    AsFound,
+    /// Faulty, and made afresh.
+    Afresh,
+}
+
 /// What drawn repairs came to.
 #[derive(Debug, Default)]
 pub struct Seen {
-    pub refused: usize,
-    /// Parity lines that were accepted and correct as found, accepted and
-    /// rewritten, as found, and made afresh.
-    pub parity: [usize; 4],
-    /// Repairs by their answers: 0, 11, 12, and of these with an unusable group.
-    pub answers: [usize; 3],
-    pub with_unusable: [usize; 3],
+    refused: usize,
+    /// Parity lines by what became of them.
+    parity: [usize; 4],
+    /// Repairs by their answers 0, 11 and 12.
+    answers: [usize; 3],
+    /// Those of them with an unusable group.
+    with_unusable: [usize; 3],
 }
 
 impl Seen {
-    /// Holds what a drawn repair gave against the request's words. (How the
-    /// passes mend lines, the request Q-1's comparison with repair as it was
-    /// tells.)
+    /// Holds what a drawn repair gave against the request's words. (How lines
+    /// are mended is held against repair stated anew, in `q1`.)
     pub fn check(&mut self, call: &Call, given: &Outcome) {
         if let Some(answer) = refusal(call) {
             expect(given, &turned_back(call, answer), "a refusal");
@@ -228,9 +229,10 @@ impl Seen {
         for (table, out, n, members) in of_rows.chain(of_columns) {
             let (found, written) = (nth(table, n), nth(out, n));
             let sum = sum_of(&given.lines, members);
-            let kind = self.check_parity(found, written, &sum, left);
-            differs |= kind < 2 && places(written) != sum;
-            unusable |= kind >= 2;
+            match self.check_parity(found, written, &sum, left) {
+                Parity::Clean | Parity::Rewritten => differs |= places(written) != sum,
+                Parity::AsFound | Parity::Afresh => unusable = true,
+            }
         }
         let expected = match (left, differs) {
             (true, _) => 11,
@@ -245,20 +247,22 @@ impl Seen {
     }
 
     /// One parity line, as found and as written out, and what its group's lines
-    /// sum up to; gives which of the four kinds it is.
-    fn check_parity(&mut self, found: &[u8], written: &[u8], sum: &Line, left: bool) -> usize {
-        let mut read = [0; LINE_BYTES];
-        let reading = read_line(found, &mut read);
-        let kind = match reading.answer {
-            0 => usize::from(reading.mark),
-            _ if left => 2,
-            _ => 3,
-        };
+    /// sum up to; gives what became of it.
+    fn check_parity(&mut self, found: &[u8], written: &[u8], sum: &Line, left: bool) -> Parity {
         // A faulty line's reading is the line as found, spare bits 0.
-        let expected = if kind == 3 { line::bytes(sum) } else { read };
-        assert_eq!(written, expected, "a parity line of kind {kind}");
-        self.parity[kind] += 1;
-        kind
+        let mut expected = [0; LINE_BYTES];
+        let became = match read_line(found, &mut expected).mark {
+            0 => Parity::Clean,
+            1 => Parity::Rewritten,
+            _ if left => Parity::AsFound,
+            _ => Parity::Afresh,
+        };
+        if became == Parity::Afresh {
+            expected = line::bytes(sum);
+        }
+        assert_eq!(written, expected);
+        self.parity[became as usize] += 1;
+        became
     }
 
     /// All of these came up so often.
