@@ -303,8 +303,8 @@ static void change_each(unsigned bad_rows, unsigned bad_columns)
 }
 
 /*
- * Every set of bad rows with every set of bad columns, each line hurt in one bit or past reading. A change looks at its own row and
- * column alone. Repair refuses none of them, and gives both tables as they were written.
+ * Every set of bad rows with every set of bad columns: rows hurt past reading, columns in a Hamming bit. A change looks at its own
+ * row and column alone. Repair refuses none of them, and gives both tables as they were written.
  */
 static void bad_parity(void)
 {
