@@ -57,7 +57,7 @@ beforeImplies w r before =
     record {
       bounds = record {
         shape = before .shape;
-        five = before .five;
+        five = λ n h. omega (arith, before .five n h);
         rowFive = λ k h. omega (arith, rows-whole w r before k h);
         columnFive = λ k h. omega (arith, columns-whole w r before k h);
       };

@@ -42,7 +42,7 @@ own-line k buffer e n h =
 pub record TableDamaged (w : Rectangle) (members : ℕ → List ℕ) (total : ℕ) (table received : List ℕ) : Type 0 where
   pub written : TableWritten w members total table
   pub whole : length received ≡ total * lineBytes
-  pub five : (k : ℕ) → k < total → distance (placesAt table k) (placesAt received k) ≤ 5
+  pub six : (k : ℕ) → k < total → distance (placesAt table k) (placesAt received k) ≤ 6
 
 module _ (promises : Promises lineLayer) {w : Rectangle} {members : ℕ → List ℕ} {total : ℕ} {table received : List ℕ}
     (d : TableDamaged w members total table received) where
@@ -55,7 +55,7 @@ module _ (promises : Promises lineLayer) {w : Rectangle} {members : ℕ → List
       record {
         correct = subst (lineLayer .Correct _) (d .written .sums k h) (d .written .correct k h);
         places = length-placesAt total received (d .whole) k h;
-        six = rw (← d .written .sums k h) (omega (arith, d .five k h));
+        six = rw (← d .written .sums k h) (d .six k h);
       }
 
   -- a group that counts in the order is used as written

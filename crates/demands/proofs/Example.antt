@@ -22,7 +22,7 @@ use Rattle.scheme.specs.Demand3.{_∈_, wordAt}
 use Rattle.rectangle.specs.Store.{lineLayer, placesAt, linesIn, bufferOf, column, columnGroup}
 use Rattle.rectangle.specs.Refusals.{sideFits, sidesFit}
 use Rattle.rectangle.specs.Change.{newLine}
-use Rattle.demands.specs.Demands.{Rectangle, count, Buffers, repairOf, Room, Written, Distinct, damage, damagedAt, rowDamage, columnDamage, Alone, Paired, WithinBounds, DamagedSo, Returned, HypothesisMet}
+use Rattle.demands.specs.Demands.{Rectangle, Buffers, repairOf, Room, Written, Distinct, damage, damagedAt, rowDamage, columnDamage, Alone, Paired, WithinBounds, DamagedSo, Returned, HypothesisMet}
 use Rattle.rectangle.proofs.Members.{in-upFrom, upFrom-bounds}
 use Rattle.rectangle.proofs.Spare.{places-is}
 use Rattle.rectangle.proofs.Buffer.{Sized, placesAt-bufferOf, linesIn-bufferOf, length-bufferOf, length-holds, linesIn-equal}
@@ -231,19 +231,19 @@ module _ (promises : Promises lineLayer) (a b c d : Word)
           tableBytes = lengths-tables 2 2 _ _ (length-bufferOf foundRows) (length-bufferOf foundColumns);
         };
         five = λ n h. omega (arith, two-bits n h);
-        rowFive = rowFive;
-        columnFive = columnFive;
+        rowFive = λ k h. omega (arith, rowTwo k h);
+        columnFive = λ k h. omega (arith, columnTwo k h);
       }
     where
-      rowFive : (k : ℕ) → k < 2 → rowDamage stored found k ≤ 5
-      rowFive zero h = omega (arith, row-damage .0)
-      rowFive (suc zero) h = omega (arith, row-damage .1)
-      rowFive (suc (suc k)) h = let z : ⊥ = omega arith in absurd z
+      rowTwo : (k : ℕ) → k < 2 → rowDamage stored found k ≤ 2
+      rowTwo zero h = omega (arith, row-damage .0)
+      rowTwo (suc zero) h = omega (arith, row-damage .1)
+      rowTwo (suc (suc k)) h = let z : ⊥ = omega arith in absurd z
 
-      columnFive : (k : ℕ) → k < 2 → columnDamage stored found k ≤ 5
-      columnFive zero h = omega (arith, column-damage .0)
-      columnFive (suc zero) h = omega (arith, column-damage .1)
-      columnFive (suc (suc k)) h = let z : ⊥ = omega arith in absurd z
+      columnTwo : (k : ℕ) → k < 2 → columnDamage stored found k ≤ 2
+      columnTwo zero h = omega (arith, column-damage .0)
+      columnTwo (suc zero) h = omega (arith, column-damage .1)
+      columnTwo (suc (suc k)) h = let z : ⊥ = omega arith in absurd z
 
   damaged : DamagedSo stored found
   unfolding stored found rectangleOf

@@ -13,7 +13,7 @@ use Rattle.scheme.specs.Demand3 as Scheme
 use Rattle.scheme.proofs.NoneWrong.{none-wrong}
 use Rattle.rectangle.specs.Store.{lineLayer, linesIn}
 use Rattle.rectangle.specs.Repair.{repairedBy, handedOver}
-use Rattle.demands.specs.Demands.{Rectangle, count, Buffers, repairOf, Room, groupsOf, stepsOn, Written, WithinBounds, NoneWrong, NoWrongLine}
+use Rattle.demands.specs.Demands.{Rectangle, count, repairOf, Room, groupsOf, stepsOn, Written, WithinBounds, NoneWrong, NoWrongLine}
 use Rattle.rectangle.proofs.Buffer.{linesIn-at}
 use Rattle.demands.proofs.Handed.{line-handed, mark-handed, within-end}
 use Rattle.demands.proofs.Handed as Handed

@@ -15,7 +15,7 @@ use Rattle.scheme.specs.Demand3 as Scheme
 use Rattle.scheme.proofs.Lists.{in-map}
 use Rattle.rectangle.specs.Store.{lineLayer, linesIn, row, column, groups}
 use Rattle.rectangle.specs.Repair.{usedGroups}
-use Rattle.demands.specs.Demands.{Rectangle, count, groupsOf, Written, Distinct, damage, damagedAt, rowDamage, columnDamage, Alone, Paired, Turn, Turns, WithinBounds, Order}
+use Rattle.demands.specs.Demands.{Rectangle, count, groupsOf, Written, Distinct, damage, damagedAt, rowDamage, columnDamage, Turn, Turns, WithinBounds, Order}
 use Rattle.rectangle.proofs.Buffer.{length-placesAt, length-linesIn, linesIn-at, holds-length}
 use Rattle.rectangle.proofs.Groups.{in-row, row-number, row-below, in-column, column-number, column-below, row-listed, column-listed}
 use Rattle.rectangle.proofs.Tests.{tables-lengths}
@@ -38,7 +38,7 @@ module _ (promises : Promises lineLayer) (w : Rectangle) (written : Written w) (
       record {
         written = rows-written promises w written;
         whole = tables-lengths (w .rows) (w .columns) rowTable columnTable (bounds .shape .tableBytes) .0;
-        five = bounds .rowFive;
+        six = λ k h. omega (arith, bounds .rowFive k h);
       }
 
   pub columns-damaged : TableDamaged w (column (w .rows) (w .columns)) (w .columns) (w .columnTable) columnTable
@@ -46,7 +46,7 @@ module _ (promises : Promises lineLayer) (w : Rectangle) (written : Written w) (
       record {
         written = columns-written promises w written;
         whole = tables-lengths (w .rows) (w .columns) rowTable columnTable (bounds .shape .tableBytes) .1;
-        five = bounds .columnFive;
+        six = λ k h. omega (arith, bounds .columnFive k h);
       }
 
   gs : List Group

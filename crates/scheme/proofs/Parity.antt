@@ -1,6 +1,6 @@
 -- Parity lines read alone: the visit of an unusable group does nothing; and within the bounds of demand 3 a group is used as it was
 -- written or not at all, and its parity line is left as written, or as found where lines are left faulty.
-use mathlib.Core.Path.{_≡_, refl, ap}
+use mathlib.Core.Path.{_≡_, refl}
 use mathlib.Core.Logic.{_⊎_, inl, inr}
 use mathlib.Core.Bool.{Bool, true, false, true≢false, cond, _&&_}
 use mathlib.Core.List.{List, map}
