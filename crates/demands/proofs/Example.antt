@@ -61,6 +61,11 @@ unhurt-first : (x : Word) → getD (x ⊕ flip 3 (flip 2 x)) 0 false ≡ false
 unhurt-first [] = refl
 unhurt-first (a ∷ x) = bit-self a
 
+below-two : (P : ℕ → Type 0) → P 0 → P 1 → (k : ℕ) → k < 2 → P k
+below-two P p q zero h = p
+below-two P p q (suc zero) h = q
+below-two P p q (suc (suc k)) h = let z : ⊥ = omega arith in absurd z
+
 -- a table of two parity lines
 two-lines : (x y : Word) → length x ≡ linePlaces → length y ≡ linePlaces
     → (placesAt (bufferOf (x ∷ y ∷ [])) 0 ≡ x) × (placesAt (bufferOf (x ∷ y ∷ [])) 1 ≡ y)
@@ -68,9 +73,7 @@ two-lines x y e f =
     (placesAt-bufferOf (x ∷ y ∷ []) sized 0 (lit< tt), placesAt-bufferOf (x ∷ y ∷ []) sized 1 (lit< tt))
   where
     sized : Sized (x ∷ y ∷ [])
-    sized zero h = e
-    sized (suc zero) h = f
-    sized (suc (suc n)) h = let z : ⊥ = omega arith in absurd z
+    sized = below-two (λ n. length (wordAt (x ∷ y ∷ []) n) ≡ linePlaces) e f
 
 -- numbers counted upward
 upFrom-distinct : (n k : ℕ) → Distinct (upFrom n k)
@@ -231,19 +234,9 @@ module _ (promises : Promises lineLayer) (a b c d : Word)
           tableBytes = lengths-tables 2 2 _ _ (length-bufferOf foundRows) (length-bufferOf foundColumns);
         };
         five = λ n h. omega (arith, two-bits n h);
-        rowFive = λ k h. omega (arith, rowTwo k h);
-        columnFive = λ k h. omega (arith, columnTwo k h);
+        rowFive = below-two _ (omega (arith, row-damage .0)) (omega (arith, row-damage .1));
+        columnFive = below-two _ (omega (arith, column-damage .0)) (omega (arith, column-damage .1));
       }
-    where
-      rowTwo : (k : ℕ) → k < 2 → rowDamage stored found k ≤ 2
-      rowTwo zero h = omega (arith, row-damage .0)
-      rowTwo (suc zero) h = omega (arith, row-damage .1)
-      rowTwo (suc (suc k)) h = let z : ⊥ = omega arith in absurd z
-
-      columnTwo : (k : ℕ) → k < 2 → columnDamage stored found k ≤ 2
-      columnTwo zero h = omega (arith, column-damage .0)
-      columnTwo (suc zero) h = omega (arith, column-damage .1)
-      columnTwo (suc (suc k)) h = let z : ⊥ = omega arith in absurd z
 
   damaged : DamagedSo stored found
   unfolding stored found rectangleOf
@@ -255,21 +248,20 @@ module _ (promises : Promises lineLayer) (a b c d : Word)
           once = upFrom-distinct 0 4;
           each = λ n h k. listed n h;
           noOther = λ n i. (inside n i, omega (arith, two-bits n (inside n i)));
-          turns =
-              (inl (row₀, inr first), (inl (row₀, inl last-in-row), (inr (column₀, inl last-in-column), (inl (row₁, inl (λ m i e. i)), tt))));
+          -- column 1 does not count
+          turns = (
+            inl (omega (arith, row-damage .0), inr first),
+            (
+              inl (omega (arith, row-damage .0), inl last-in-row),
+              (
+                inr (omega (arith, column-damage .0), inl last-in-column),
+                (inl (omega (arith, row-damage .1), inl (λ m i e. i)), tt),
+              ),
+            ),
+          );
         };
       }
     where
-      -- the groups that count: not column 1
-      row₀ : rowDamage stored found 0 ≤ 1
-      row₀ = omega (arith, row-damage .0)
-
-      row₁ : rowDamage stored found 1 ≤ 1
-      row₁ = omega (arith, row-damage .1)
-
-      column₀ : columnDamage stored found 0 ≤ 1
-      column₀ = omega (arith, column-damage .0)
-
       listed : (n : ℕ) → n < 4 → n ∈ (0 ∷ 1 ∷ 2 ∷ 3 ∷ [])
       listed n h = rw zero-add at (in-upFrom 0 4 n h)
 
