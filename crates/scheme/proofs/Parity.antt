@@ -2,7 +2,7 @@
 -- written or not at all, and its parity line is left as written, or as found where lines are left faulty.
 use mathlib.Core.Path.{_≡_, refl}
 use mathlib.Core.Logic.{_⊎_, inl, inr}
-use mathlib.Core.Bool.{Bool, true, false, true≢false, cond, _&&_}
+use mathlib.Core.Bool.{Bool, true, false, true≢false}
 use mathlib.Core.List.{List, map}
 use Prim.Native.Nat.{ℕ, _≤_, _<_}
 use borrow.Author.Tests.{eqb-true, eqb-false, leb-true, leb-false}
@@ -31,12 +31,11 @@ pub rising-read : (layer : Layer) (gs : List Group) → RisingGroups gs → Risi
 unfolding asRead
 rising-read layer gs rising h i =
     let g = map-from (asRead layer) gs h i in
-    rw (g .2) (go (g .0) (unusable layer (g .0)) (rising (g .0) (g .1)))
+    rw (g .2) (go (g .0) (unusable layer (g .0)) refl (rising (g .0) (g .1)))
   where
-    go : (g : Group) (b : Bool) → Rising (g .members)
-        → Rising (cond b noLines (record { members = g .members; parity = readParity layer g .line }) .members)
-    go g true r = tt
-    go g false r = r
+    go : (g : Group) (b : Bool) → unusable layer g ≡ b → Rising (g .members) → Rising (asRead layer g .members)
+    go g true e r = rw e tt
+    go g false e r = rw e r
 
 -- a group as found where lines were written: their sum is a correct line, and the parity line has all places and at most six damaged
 -- bits
@@ -72,6 +71,11 @@ module _ (layer : Layer) (promises : Promises layer) (written : List Word) where
         → asRead layer g ≡ record { members = g .members; parity = sum (wordAt written) (g .members) }
     one-used d = used (one-usable d)
 
+    -- an unusable one is read as found, and has two or more damaged bits
+    reads-found : unusable layer g ≡ true → readParity layer g .line ≡ g .parity
+    unfolding unusable
+    reads-found e = promises .kept _ (g .parity) (found .places) (eqb-true _ 4 e)
+
     unusable-two : unusable layer g ≡ true → 2 ≤ distance (sum (wordAt written) (g .members)) (g .parity)
     unusable-two e = go (leb (distance (sum (wordAt written) (g .members)) (g .parity)) 1) refl
       where
@@ -93,20 +97,16 @@ module _ (layer : Layer) (promises : Promises layer) (written : List Word) where
         → (parityAfter layer s g ≡ sum (wordAt written) (g .members))
         ⊎ ((faultyCount s ≡ 0 → ⊥) × (parityAfter layer s g ≡ g .parity)
         × (2 ≤ distance (sum (wordAt written) (g .members)) (g .parity)))
-    unfolding parityAfter unusable
+    unfolding parityAfter
     parity-left s lines = go (unusable layer g) (eqb (faultyCount s) 0) refl refl
       where
-        left : Bool → Bool → Word
-        left lost none = cond (lost && none) (sum (lineAt s) (g .members)) (readParity layer g .line)
-
         go : (b c : Bool) → unusable layer g ≡ b → eqb (faultyCount s) 0 ≡ c
-            → (left b c ≡ sum (wordAt written) (g .members))
-            ⊎ ((faultyCount s ≡ 0 → ⊥) × (left b c ≡ g .parity)
+            → (parityAfter layer s g ≡ sum (wordAt written) (g .members))
+            ⊎ ((faultyCount s ≡ 0 → ⊥) × (parityAfter layer s g ≡ g .parity)
             × (2 ≤ distance (sum (wordAt written) (g .members)) (g .parity)))
-        go false c e f = inl (reads-written e)
-        go true true e f = inl (sum-ext (lineAt s) (wordAt written) (g .members) (lines (eqb-true _ 0 f)))
-        go true false e f =
-            inr (eqb-false _ 0 f, promises .kept _ (g .parity) (found .places) (eqb-true _ 4 e), unusable-two e)
+        go false c e f = inl (rw e (reads-written e))
+        go true true e f = inl (rw (e, f) (sum-ext (lineAt s) (wordAt written) (g .members) (lines (eqb-true _ 0 f))))
+        go true false e f = inr (eqb-false _ 0 f, rw (e, f) (reads-found e), unusable-two e)
 
   -- with the groups as read, lines written are a store written
   pub written-read : (gs : List Group) → ((g : Group) → g ∈ gs → Found layer written g)
