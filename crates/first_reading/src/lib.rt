@@ -134,7 +134,17 @@ fn read_row(
         read_piece(table, found, out, marks, n, count);
         let open = OpenRow { difference, hurt };
         let column = ColumnIndex(c);
-        let next = add_piece(out, marks, column_lacks, faulty, rows, n, column, count, open);
+        let next = add_piece(
+            out,
+            marks,
+            column_lacks,
+            faulty,
+            rows,
+            n,
+            column,
+            count,
+            open,
+        );
         let sum = next.difference;
         difference = sum;
         hurt = next.hurt;

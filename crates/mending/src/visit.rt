@@ -86,7 +86,18 @@ fn trial(
                 let tried = reading::read(table, place::flip_place(line, at[j]));
                 if tried.mark != 4 {
                     let read = tried.line;
-                    mend(out, marks, row_lacks, column_lacks, faulty, rows, columns, n, read, 2);
+                    mend(
+                        out,
+                        marks,
+                        row_lacks,
+                        column_lacks,
+                        faulty,
+                        rows,
+                        columns,
+                        n,
+                        read,
+                        2,
+                    );
                     break 'search;
                 }
                 j += 1;
@@ -120,7 +131,18 @@ fn settle_group(
         let n = groups::first_faulty(marks, chosen.first, chosen.step, chosen.count);
         let lack = tracked::difference(row_lacks, column_lacks, which);
         let rebuilt = place::xor_lines(lines::line_at(out, n), lack);
-        mend(out, marks, row_lacks, column_lacks, faulty, rows, columns, n, rebuilt, 3);
+        mend(
+            out,
+            marks,
+            row_lacks,
+            column_lacks,
+            faulty,
+            rows,
+            columns,
+            n,
+            rebuilt,
+            3,
+        );
     }
 }
 
@@ -187,6 +209,25 @@ pub fn visit_group(
         (now (out .exit)) (now (marks .exit)) (now («row_lacks» .exit) ++ now («column_lacks» .exit)) (now (faulty .exit))
         (λ parity. visit (readLine lineLayer) (groupOf rows columns parity (numberOf rows (chosen .which)))) ⌝ }
 {
-    try_group(table, out, marks, row_lacks, column_lacks, faulty, rows, columns, chosen);
-    settle_group(out, marks, row_lacks, column_lacks, faulty, rows, columns, chosen);
+    try_group(
+        table,
+        out,
+        marks,
+        row_lacks,
+        column_lacks,
+        faulty,
+        rows,
+        columns,
+        chosen,
+    );
+    settle_group(
+        out,
+        marks,
+        row_lacks,
+        column_lacks,
+        faulty,
+        rows,
+        columns,
+        chosen,
+    );
 }

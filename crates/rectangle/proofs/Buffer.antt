@@ -1,14 +1,14 @@
 -- Lines in a buffer: how many bytes, which line is read where, and what writing one line leaves.
 use mathlib.Core.Path.{_≡_, sym, ap, ap₂, _∙_}
 use mathlib.Core.Bool.{true}
-use mathlib.Core.List.{List, [], _∷_, _++_, map, append-assoc}
+use mathlib.Core.List.{List, [], _∷_, _++_, map, append-nil, append-assoc}
 use Prim.Native.Nat.{ℕ, zero, suc, _+_, _-_, _*_, _≤_, _<_}
-use native.Mathlib.Nat.{suc-mul, zero-mul, zero-add, le-of-suc-le-suc, not-suc-le-zero, mul-le-mul-right}
+use native.Mathlib.Nat.{suc-mul, zero-mul, zero-add, add-zero, suc-add, add-suc, le-of-suc-le-suc, not-suc-le-zero, mul-le-mul-right}
 use native.Mathlib.Decide.{decLe}
 use native.Mathlib.Omega.{arith}
 use borrow.Author.Tests.{eqb-true, eq-eqb}
 use lib.ListN.{length, take, drop, getD, set, length-append, length-drop, length-map, List·getD-append}
-use lib.Seq.{take-at, drop-at, take-append-add, drop-append-add, getD-append-add, getD-take, getD-drop, length-take-le, ext-getD}
+use lib.Seq.{take-add, take-at, drop-at, take-append-add, drop-append-add, getD-append-add, getD-take, getD-drop, length-take-le, ext-getD}
 use Rattle.gf2.specs.Word.{Word}
 use Rattle.linecode.specs.Places.{linePlaces, lineBytes, places, lineOf}
 use Rattle.linecode.specs.Code.{upFrom}
@@ -138,6 +138,28 @@ module _ (line : ℕ → Word) (k : ℕ) where
 
   pub length-table-bytes : length (bufferOf (map line (upFrom 0 k))) ≡ k * lineBytes
   length-table-bytes = length-bufferOf (map line (upFrom 0 k)) ∙ ap (λ (m : ℕ). m * lineBytes) length-table
+
+-- one line more at the end of such a table
+table-snoc : (line : ℕ → Word) (n k : ℕ)
+    → bufferOf (map line (upFrom n (suc k))) ≡ bufferOf (map line (upFrom n k)) ++ lineOf (line (n + k))
+table-snoc line n zero = append-nil (lineOf (line n)) ∙ ap (λ (m : ℕ). lineOf (line m)) (sym (add-zero n))
+table-snoc line n (suc k) =
+    ap (λ (l : List ℕ). lineOf (line n) ++ l)
+    (table-snoc line (suc n) k
+    ∙ ap (λ (m : ℕ). bufferOf (map line (upFrom (suc n) k)) ++ lineOf (line m)) (suc-add n k ∙ sym (add-suc n k)))
+    ∙ sym (append-assoc (lineOf (line n)) (bufferOf (map line (upFrom (suc n) k))) (lineOf (line (n + suc k))))
+
+-- a buffer whose first k lines are those
+pub table-of : (line : ℕ → Word) (sums : List ℕ) (k : ℕ) → ((n : ℕ) → n < k → bytesAt sums n ≡ lineOf (line n))
+    → take (k * 70) sums ≡ bufferOf (map line (upFrom 0 k))
+unfolding bytesAt lineBytes
+table-of line sums zero h = ap (λ (i : ℕ). take i sums) (zero-mul 70)
+table-of line sums (suc k) h =
+    ap (λ (i : ℕ). take i sums) (suc-mul k 70)
+    ∙ take-add (k * 70) 70 sums
+    ∙ ap₂ _++_ (table-of line sums k (λ n i. h n (omega arith))) (h k (omega arith))
+    ∙ ap (λ (m : ℕ). bufferOf (map line (upFrom 0 k)) ++ lineOf (line m)) (sym (zero-add k))
+    ∙ sym (table-snoc line 0 k)
 
 -- a line put into a buffer made from lines
 pub putLine-bufferOf : (ws : List Word) (n : ℕ) (w : Word) → n < length ws → putLine (bufferOf ws) n w ≡ bufferOf (set ws n w)

@@ -19,6 +19,7 @@ use Rattle.promises.proofs.LineLayout.{layout}
 use Rattle.linecode.proofs.Loading.{written-loaded}
 use Rattle.scheme.specs.Layer.{readLine, CorrectLine, parityAddress, ReadsAs, Promises}
 use Rattle.scheme.specs.Visit.{Group, isFaulty}
+use Rattle.scheme.specs.Parity.{readParity}
 use Rattle.scheme.specs.Marks.{MarksTell}
 use Rattle.scheme.specs.Readings.{Agreeing}
 use Rattle.rectangle.specs.Store.{readUnder, writeUnder, CorrectUnder, isCorrectUnder, lineLayer, bytesAt, placesAt, aloneAt, inBytes}
@@ -70,6 +71,11 @@ pub read-at : (buffer : List ℕ) (n : ℕ) (line : List ℕ) (r : Reading) → 
     → r ≡ inBytes (aloneAt buffer n)
 unfolding aloneAt placesAt
 read-at buffer n line r e f = f ∙ ap reading e ∙ read-as n (bytesAt buffer n)
+
+-- a group's parity line, read by its bytes
+pub parity-read : (g : Group) (line : List ℕ) → g .parity ≡ places line → reading line ≡ inBytes (readParity lineLayer g)
+unfolding reading readUnder
+parity-read g line e = ap (λ (w : Word). inBytes (readParity lineLayer (record { members = g .members; parity = w }))) (sym e)
 
 -- ---- correct lines: the test of a group's parity line, made on its bytes
 pub tested-as : (g : Group) (line : List ℕ) → g .parity ≡ places line → isCorrect (places line) ≡ parityCorrect g

@@ -1,7 +1,7 @@
 -- Laws of repair on lent buffers.
 pub mod Refusing
 pub mod Groups
-pub mod Starting
+pub mod Tables
 pub mod Counting
 pub mod Passing
 pub mod Running

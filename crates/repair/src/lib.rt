@@ -133,7 +133,14 @@ fn steps(
         rows,
         columns,
     );
-    let answer = answer_after(rows, columns, row_lacks, column_lacks, &faulty, parity_marks);
+    let answer = answer_after(
+        rows,
+        columns,
+        row_lacks,
+        column_lacks,
+        &faulty,
+        parity_marks,
+    );
     Repaired { answer, passes }
 }
 
@@ -166,7 +173,14 @@ fn repair_fitting(
     let table = line_table::lent();
     let mut parity_marks = [0u8; 1024];
     parity::read_rows(&table, rows, row_table, row_out, &mut parity_marks);
-    parity::read_columns(&table, rows, columns, column_table, column_out, &mut parity_marks);
+    parity::read_columns(
+        &table,
+        rows,
+        columns,
+        column_table,
+        column_out,
+        &mut parity_marks,
+    );
     let repaired = steps(
         &table,
         lines,

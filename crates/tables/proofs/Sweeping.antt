@@ -18,34 +18,13 @@ use Rattle.rectangle.specs.Refusals.{acceptedAt}
 use Rattle.rectangle.specs.Tables.{rowParity, columnParity, rowTableOf, columnTableOf}
 use Rattle.tables.specs.Sweep.{RowUnswept, RowSwept, Unswept, Swept}
 use Rattle.rectangle.proofs.Members.{upFrom-bounds}
-use Rattle.rectangle.proofs.Buffer.{byte-of, length-putLine, bytesAt-put, bytesAt-other}
+use Rattle.rectangle.proofs.Buffer.{byte-of, length-putLine, bytesAt-put, bytesAt-other, table-of}
 use Rattle.rectangle.proofs.Area.{column-bytes}
 use Rattle.rectangle.proofs.Alone.{seventy}
 use Rattle.rectangle.proofs.Tests.{some-fails, from-every, every-below, fails-below}
 use Rattle.tables.proofs.Summing.{summed, none-summed, clean-summed, sum-turn}
 
 -- ---- the sums as tables
--- one line more at the end of a table
-table-snoc : (line : ℕ → Word) (n k : ℕ)
-    → bufferOf (map line (upFrom n (suc k))) ≡ bufferOf (map line (upFrom n k)) ++ lineOf (line (n + k))
-table-snoc line n zero = append-nil (lineOf (line n)) ∙ ap (λ (m : ℕ). lineOf (line m)) (sym (add-zero n))
-table-snoc line n (suc k) =
-    ap (λ (l : List ℕ). lineOf (line n) ++ l)
-    (table-snoc line (suc n) k
-    ∙ ap (λ (m : ℕ). bufferOf (map line (upFrom (suc n) k)) ++ lineOf (line m)) (suc-add n k ∙ sym (add-suc n k)))
-    ∙ sym (append-assoc (lineOf (line n)) (bufferOf (map line (upFrom (suc n) k))) (lineOf (line (n + suc k))))
-
-table-of : (line : ℕ → Word) (sums : List ℕ) (k : ℕ) → ((n : ℕ) → n < k → bytesAt sums n ≡ lineOf (line n))
-    → take (k * 70) sums ≡ bufferOf (map line (upFrom 0 k))
-unfolding bytesAt lineBytes
-table-of line sums zero h = ap (λ (i : ℕ). take i sums) (zero-mul 70)
-table-of line sums (suc k) h =
-    ap (λ (i : ℕ). take i sums) (suc-mul k 70)
-    ∙ take-add (k * 70) 70 sums
-    ∙ ap₂ _++_ (table-of line sums k (λ n i. h n (omega arith))) (h k (omega arith))
-    ∙ ap (λ (m : ℕ). bufferOf (map line (upFrom 0 k)) ++ lineOf (line m)) (sym (zero-add k))
-    ∙ sym (table-snoc line 0 k)
-
 -- zeros are the sums of nothing
 nothing-summed : (size k : ℕ) → size ≡ k * 70 → (n : ℕ) → n < k → bytesAt (replicate size 0) n ≡ lineOf []
 unfolding lineBytes

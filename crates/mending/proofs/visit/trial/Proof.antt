@@ -115,45 +115,45 @@ loop-again c =
     let tries = c .before .before .before .before .before .before .before .before .before .before .before .args .tries in
     let full = tries-length (tries .count) (tries .at) (here .inv .0) (here .inv .1) in
     ⊎-elim
-          (λ w.
-          let found = w .3 .inv in (
-            here .inv .0,
-            here .inv .1,
-            retry _ _ _ _ _ _ _ _ _ _ _ _ _ _ _ _ _ _ _ _ (w .5 ∙ found .0) (w .6 ∙ found .1) (ap₂ (λ (x y : List ℕ). x ++ y) (w .7 ∙ found .2) (w .8 ∙ found .3)) (w .9 ∙ found .4)
-                (trying-failed _ _ _ _ _ _ _ _ _ _ _ _ _ _ _ _ (here .inv .2) more (w .0 .taken) (w .2 .result) (w .2 .ensures)
-                (searching-failed _ _ _ _ (found .7) (subst (λ (k : ℕ). k ≤ w .3 .j) (sym full) (w .4 .left)))),
-            ap length (w .7 ∙ found .2) ∙ here .inv .3,
-            ap length (w .8 ∙ found .3) ∙ here .inv .4,
-          ))
-          (⊎-elim
-          (λ w.
-          let found = w .3 .inv in
-          let kept = w .15 .kept in
-          let yet = subst (λ (k : ℕ). w .3 .j < k) (sym full) (w .4 .taken) in
-          let place = sym (getD-take (tries .count) (tries .at) (w .3 .j) 0 (w .4 .taken)) in
-          let rows-long = kept .1 .1 .0 ∙ ap length (found .2) in
-          let columns-long = kept .1 .1 .1 .0 ∙ ap length (found .3) in
-          let lacks = ap₂ (λ (x y : List ℕ). x ++ y) (found .2) (found .3) in (
-            here .inv .0,
-            here .inv .1,
-            retry _ _ _ _ _ _ _ _ _ _ _ _ _ _ _ _ _ _ _ _ (w .26) (w .27) (ap₂ (λ (x y : List ℕ). x ++ y) (w .28) (w .29)) (w .30)
-                (trying-mended _ _ _ _ _ _ _ _ _ _ _ _ _ _ _ _ (here .inv .2) more (w .0 .taken) (w .2 .result) (w .2 .ensures) _ _ _ _ _ _
-                (tried-long _ _ _ _ (found .7) (found .5) yet _ place _ (w .5 .ensures) _ (w .6 .ensures ∙ read-as _ _))
-                (tried-line _ _ _ _ (found .7) (found .5) yet _ place _ (w .5 .ensures) _ (w .6 .ensures ∙ read-as _ _))
-                (same-room _ _ _ _ _ _ _ _ _ _ (here .inv .2 .room) (kept .0 ∙ ap length (found .0)) (kept .1 .0 ∙ ap length (found .1)) (joined-length (here .row-lacks) (here .column-lacks) (w .15 .last .1 .1 .0) (w .15 .last .1 .1 .1 .0) rows-long columns-long) (kept .1 .1 .1 .1 .0 ∙ ap length (found .4)))
-                (λ parity s x h. w .15 .ensures parity s x (recarry _ _ _ _ _ _ _ _ _ _ _ _ (found .0) (found .1) lacks (found .4) h))
-                (searching-found _ _ _ _ (found .7) (found .5) yet _ place _ (w .5 .ensures) _ (w .6 .ensures ∙ read-as _ _) (w .8 .taken))),
-            ap length (w .28) ∙ rows-long ∙ here .inv .3,
-            ap length (w .29) ∙ columns-long ∙ here .inv .4,
-          ))
-          (λ w. (
-            here .inv .0,
-            here .inv .1,
-            retry _ _ _ _ _ _ _ _ _ _ _ _ _ _ _ _ _ _ _ _ (w .1) (w .2) (ap₂ (λ (x y : List ℕ). x ++ y) (w .3) (w .4)) (w .5) (trying-other _ _ _ _ _ _ _ _ _ _ _ _ _ _ _ _ (here .inv .2) more (w .0 .left)),
-            ap length (w .3) ∙ here .inv .3,
-            ap length (w .4) ∙ here .inv .4,
-          )))
-          (c .before .if1 .came)
+    (λ w.
+    let found = w .3 .inv in (
+      here .inv .0,
+      here .inv .1,
+      retry _ _ _ _ _ _ _ _ _ _ _ _ _ _ _ _ _ _ _ _ (w .5 ∙ found .0) (w .6 ∙ found .1) (ap₂ (λ (x y : List ℕ). x ++ y) (w .7 ∙ found .2) (w .8 ∙ found .3)) (w .9 ∙ found .4)
+          (trying-failed _ _ _ _ _ _ _ _ _ _ _ _ _ _ _ _ (here .inv .2) more (w .0 .taken) (w .2 .result) (w .2 .ensures)
+          (searching-failed _ _ _ _ (found .7) (subst (λ (k : ℕ). k ≤ w .3 .j) (sym full) (w .4 .left)))),
+      ap length (w .7 ∙ found .2) ∙ here .inv .3,
+      ap length (w .8 ∙ found .3) ∙ here .inv .4,
+    ))
+    (⊎-elim
+    (λ w.
+    let found = w .3 .inv in
+    let kept = w .15 .kept in
+    let yet = subst (λ (k : ℕ). w .3 .j < k) (sym full) (w .4 .taken) in
+    let place = sym (getD-take (tries .count) (tries .at) (w .3 .j) 0 (w .4 .taken)) in
+    let rows-long = kept .1 .1 .0 ∙ ap length (found .2) in
+    let columns-long = kept .1 .1 .1 .0 ∙ ap length (found .3) in
+    let lacks = ap₂ (λ (x y : List ℕ). x ++ y) (found .2) (found .3) in (
+      here .inv .0,
+      here .inv .1,
+      retry _ _ _ _ _ _ _ _ _ _ _ _ _ _ _ _ _ _ _ _ (w .26) (w .27) (ap₂ (λ (x y : List ℕ). x ++ y) (w .28) (w .29)) (w .30)
+          (trying-mended _ _ _ _ _ _ _ _ _ _ _ _ _ _ _ _ (here .inv .2) more (w .0 .taken) (w .2 .result) (w .2 .ensures) _ _ _ _ _ _
+          (tried-long _ _ _ _ (found .7) (found .5) yet _ place _ (w .5 .ensures) _ (w .6 .ensures ∙ read-as _ _))
+          (tried-line _ _ _ _ (found .7) (found .5) yet _ place _ (w .5 .ensures) _ (w .6 .ensures ∙ read-as _ _))
+          (same-room _ _ _ _ _ _ _ _ _ _ (here .inv .2 .room) (kept .0 ∙ ap length (found .0)) (kept .1 .0 ∙ ap length (found .1)) (joined-length (here .row-lacks) (here .column-lacks) (w .15 .last .1 .1 .0) (w .15 .last .1 .1 .1 .0) rows-long columns-long) (kept .1 .1 .1 .1 .0 ∙ ap length (found .4)))
+          (λ parity s x h. w .15 .ensures parity s x (recarry _ _ _ _ _ _ _ _ _ _ _ _ (found .0) (found .1) lacks (found .4) h))
+          (searching-found _ _ _ _ (found .7) (found .5) yet _ place _ (w .5 .ensures) _ (w .6 .ensures ∙ read-as _ _) (w .8 .taken))),
+      ap length (w .28) ∙ rows-long ∙ here .inv .3,
+      ap length (w .29) ∙ columns-long ∙ here .inv .4,
+    ))
+    (λ w. (
+      here .inv .0,
+      here .inv .1,
+      retry _ _ _ _ _ _ _ _ _ _ _ _ _ _ _ _ _ _ _ _ (w .1) (w .2) (ap₂ (λ (x y : List ℕ). x ++ y) (w .3) (w .4)) (w .5) (trying-other _ _ _ _ _ _ _ _ _ _ _ _ _ _ _ _ (here .inv .2) more (w .0 .left)),
+      ap length (w .3) ∙ here .inv .3,
+      ap length (w .4) ∙ here .inv .4,
+    )))
+    (c .before .if1 .came)
 
 same-length : tie.Need-same-length Inv-search μ-search Inv-loop μ-loop
 same-length c = c .before .loop .inv .2 .room .rect .outBytes ∙ sym (c .before .before .before .before .before .before .before .before .pre .1 .0 .room .rect .outBytes)

@@ -1,0 +1,14 @@
+-- `repair::parity::start_of` meets its contract.
+use mathlib.Core.Path.{refl}
+use borrow.Author.Tests.{eq-eqb, ne-eqb}
+use Rattle.repair.proofs.parity.start_of.Statement.{statement}
+use Rattle.repair.proofs.parity.start_of.Tie as tie
+
+returns : tie.Need-returns
+returns c = rw (eq-eqb (c .before .before .args .read .mark) 4 (c .if1 .taken))
+
+returns-2 : tie.Need-returns-2
+returns-2 c = rw (ne-eqb (c .before .before .before .args .read .mark) 4 (c .before .if1 .left))
+
+pub start-of-spec : {M : Type 1} → statement M
+start-of-spec = tie.close (tie.spec returns returns-2)
