@@ -115,7 +115,7 @@ pub extern "C" fn sudoku_change_line(
     changed.answer
 }
 
-// Repair of the lines into `out` and `marks`, its passes, and the number that comes with 13 or 14.
+// Repair of the lines into `out` and `marks`, of the tables into `row_out` and `column_out`, and its passes.
 #[no_mangle]
 pub extern "C" fn sudoku_repair(
     rows: usize,
@@ -125,22 +125,33 @@ pub extern "C" fn sudoku_repair(
     column_table: &[u8],
     out: &mut [u8],
     marks: &mut [u8],
+    row_out: &mut [u8],
+    column_out: &mut [u8],
     passes: &mut u64,
-    number: &mut u64,
 ) -> u32
     ensures { λ r. ⌜ _≡_ {A = StoreRepaired}
         (record {
           answer = r;
           passes = now (passes .exit);
-          number = now (number .exit);
           lines = now (out .exit);
           marks = now (marks .exit);
+          rowTable = now («row_out» .exit);
+          columnTable = now («column_out» .exit);
         })
         (repairStore rows columns (now (lines .entry)) (now («row_table» .entry)) (now («column_table» .entry))
-        (now (out .entry)) (now (marks .entry))) ⌝ }
+        (now (out .entry)) (now (marks .entry)) (now («row_out» .entry)) (now («column_out» .entry))) ⌝ }
 {
-    let repaired = repair::repair(rows, columns, lines, row_table, column_table, out, marks);
+    let repaired = repair::repair(
+        rows,
+        columns,
+        lines,
+        row_table,
+        column_table,
+        out,
+        marks,
+        row_out,
+        column_out,
+    );
     *passes = repaired.passes as u64;
-    *number = repaired.number as u64;
     repaired.answer
 }

@@ -63,7 +63,8 @@ fn add_piece(
     count: usize,
     row: OpenRow,
 ) -> OpenRow
-    requires { ⌜ SomePiece rows (now out) (now marks) (now «column_lacks») (now faulty) n (column .0) count (row .difference) (row .hurt) ⌝ }
+    requires { ⌜ SomePiece rows (now out) (now marks) (now «column_lacks») (now faulty) n (column .0) count
+        (row .difference) (row .hurt) ⌝ }
     ensures { λ s. ⌜ ((columns : ℕ) (parity : ℕ → Word) (found : List ℕ) (r : ℕ) (rowLacks : List ℕ) → length rowLacks ≡ rows * 70
         → Piece rows columns parity found (now (out .entry)) (now (marks .entry)) (rowLacks ++ now («column_lacks» .entry))
         (now (faulty .entry)) r n (column .0) count (row .difference) (row .hurt)
@@ -122,8 +123,10 @@ fn read_row(
     requires some { ⌜ ((parity : (ℕ → Word))
         × ReadUpTo rows columns parity (now found) (now out) (now marks) (now «row_lacks» ++ now «column_lacks») (now faulty) first) ⌝ }
     ensures { λ _. ⌜ ReadsOn rows columns (now (found .entry))
-        (now (out .entry)) (now (marks .entry)) (now («row_lacks» .entry) ++ now («column_lacks» .entry)) (now (faulty .entry))
-        (now (out .exit)) (now (marks .exit)) (now («row_lacks» .exit) ++ now («column_lacks» .exit)) (now (faulty .exit)) first (first + columns) ⌝ }
+        (now (out .entry)) (now (marks .entry))
+        (now («row_lacks» .entry) ++ now («column_lacks» .entry)) (now (faulty .entry))
+        (now (out .exit)) (now (marks .exit)) (now («row_lacks» .exit) ++ now («column_lacks» .exit))
+        (now (faulty .exit)) first (first + columns) ⌝ }
 {
     let mut difference = lines::row_parity(row_lacks, row);
     let mut hurt = tracked::count(faulty, rows, Which::Row(row));
@@ -171,8 +174,10 @@ pub fn read_all(
     requires lines { ⌜ (length (now found) ≡ rows * columns * 70) × (length (now «row_lacks») ≡ rows * 70)
         × (length (now «column_lacks») ≡ columns * 70) ⌝ }
     requires some { ⌜ ((parity : (ℕ → Word)) × Tracked rows columns parity (now «row_lacks» ++ now «column_lacks») (now faulty) []) ⌝ }
-    ensures { λ _. ⌜ ((parity : ℕ → Word) → Tracked rows columns parity (now («row_lacks» .entry) ++ now («column_lacks» .entry)) (now (faulty .entry)) []
-        → Carried rows columns parity (now (out .exit)) (now (marks .exit)) (now («row_lacks» .exit) ++ now («column_lacks» .exit)) (now (faulty .exit))
+    ensures { λ _. ⌜ ((parity : ℕ → Word)
+        → Tracked rows columns parity (now («row_lacks» .entry) ++ now («column_lacks» .entry)) (now (faulty .entry)) []
+        → Carried rows columns parity (now (out .exit)) (now (marks .exit))
+        (now («row_lacks» .exit) ++ now («column_lacks» .exit)) (now (faulty .exit))
         (readAll (readLine lineLayer) 0 (linesIn (rows * columns) (now (found .entry))))) ⌝ }
 {
     let mut first = 0;

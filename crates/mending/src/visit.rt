@@ -34,10 +34,11 @@ fn mend(
     requires ready { ⌜ Ready rows columns (now out) (now marks) (now «row_lacks») (now «column_lacks») (now faulty) ⌝ }
     requires faulty { ⌜ (n < rows * columns) × (getD (now marks) n 0 ≡ 4) × (mark < 4) ⌝ }
     ensures { λ _. ⌜ ((parity : ℕ → Word) (s : State) (w : Word)
-        → Carried rows columns parity (now (out .entry)) (now (marks .entry)) (now («row_lacks» .entry) ++ now («column_lacks» .entry)) (now (faulty .entry)) s
+        → Carried rows columns parity (now (out .entry)) (now (marks .entry))
+        (now («row_lacks» .entry) ++ now («column_lacks» .entry)) (now (faulty .entry)) s
         → length w ≡ linePlaces → line ≡ lineOf w
-        → Carried rows columns parity (now (out .exit)) (now (marks .exit)) (now («row_lacks» .exit) ++ now («column_lacks» .exit)) (now (faulty .exit))
-        (set s n (record { line = w; mark = mark }))) ⌝ }
+        → Carried rows columns parity (now (out .exit)) (now (marks .exit))
+        (now («row_lacks» .exit) ++ now («column_lacks» .exit)) (now (faulty .exit)) (set s n (record { line = w; mark = mark }))) ⌝ }
 {
     let change = place::xor_lines(lines::line_at(out, n), line);
     lines::put_line(out, n, line);
@@ -68,9 +69,10 @@ fn trial(
     requires ready { ⌜ Ready rows columns (now out) (now marks) (now «row_lacks») (now «column_lacks») (now faulty) ⌝ }
     requires group { ⌜ Numbered rows columns (numberOf rows (chosen .which)) (chosen .first) (chosen .step) (chosen .count)
         × (tries .count ≤ 6) × (length (tries .at) ≡ 6) ⌝ }
-    ensures { λ _. ⌜ Makes rows columns (now (out .entry)) (now (marks .entry)) (now («row_lacks» .entry) ++ now («column_lacks» .entry)) (now (faulty .entry))
-        (now (out .exit)) (now (marks .exit)) (now («row_lacks» .exit) ++ now («column_lacks» .exit)) (now (faulty .exit))
-        (λ parity s. tryLines (readLine lineLayer) (take (tries .count) (tries .at)) s
+    ensures { λ _. ⌜ Makes rows columns (now (out .entry)) (now (marks .entry))
+        (now («row_lacks» .entry) ++ now («column_lacks» .entry)) (now (faulty .entry))
+        (now (out .exit)) (now (marks .exit)) (now («row_lacks» .exit) ++ now («column_lacks» .exit))
+        (now (faulty .exit)) (λ parity s. tryLines (readLine lineLayer) (take (tries .count) (tries .at)) s
         (stride (chosen .first) (chosen .step) (chosen .count))) ⌝ }
 {
     let at = tries.at;
@@ -121,9 +123,10 @@ fn settle_group(
 )
     requires ready { ⌜ Ready rows columns (now out) (now marks) (now «row_lacks») (now «column_lacks») (now faulty) ⌝ }
     requires group { ⌜ Picked rows columns (chosen .which) (chosen .first) (chosen .step) (chosen .count) ⌝ }
-    ensures { λ _. ⌜ Makes rows columns (now (out .entry)) (now (marks .entry)) (now («row_lacks» .entry) ++ now («column_lacks» .entry)) (now (faulty .entry))
-        (now (out .exit)) (now (marks .exit)) (now («row_lacks» .exit) ++ now («column_lacks» .exit)) (now (faulty .exit))
-        (λ parity. settle (groupOf rows columns parity (numberOf rows (chosen .which)))) ⌝ }
+    ensures { λ _. ⌜ Makes rows columns (now (out .entry)) (now (marks .entry))
+        (now («row_lacks» .entry) ++ now («column_lacks» .entry)) (now (faulty .entry))
+        (now (out .exit)) (now (marks .exit)) (now («row_lacks» .exit) ++ now («column_lacks» .exit))
+        (now (faulty .exit)) (λ parity. settle (groupOf rows columns parity (numberOf rows (chosen .which)))) ⌝ }
 {
     let which = chosen.which;
     let count = tracked::count(faulty, rows, which);
@@ -161,9 +164,10 @@ fn try_group(
     requires table { ⌜ now table ≡ lineTable ⌝ }
     requires ready { ⌜ Ready rows columns (now out) (now marks) (now «row_lacks») (now «column_lacks») (now faulty) ⌝ }
     requires group { ⌜ Picked rows columns (chosen .which) (chosen .first) (chosen .step) (chosen .count) ⌝ }
-    ensures { λ _. ⌜ Makes rows columns (now (out .entry)) (now (marks .entry)) (now («row_lacks» .entry) ++ now («column_lacks» .entry)) (now (faulty .entry))
-        (now (out .exit)) (now (marks .exit)) (now («row_lacks» .exit) ++ now («column_lacks» .exit)) (now (faulty .exit))
-        (λ parity. trial· (readLine lineLayer) (groupOf rows columns parity (numberOf rows (chosen .which)))) ⌝ }
+    ensures { λ _. ⌜ Makes rows columns (now (out .entry)) (now (marks .entry))
+        (now («row_lacks» .entry) ++ now («column_lacks» .entry)) (now (faulty .entry))
+        (now (out .exit)) (now (marks .exit)) (now («row_lacks» .exit) ++ now («column_lacks» .exit))
+        (now (faulty .exit)) (λ parity. trial· (readLine lineLayer) (groupOf rows columns parity (numberOf rows (chosen .which)))) ⌝ }
 {
     let which = chosen.which;
     if tracked::count(faulty, rows, which) < 2 {
@@ -205,9 +209,10 @@ pub fn visit_group(
     requires table { ⌜ now table ≡ lineTable ⌝ }
     requires ready { ⌜ Ready rows columns (now out) (now marks) (now «row_lacks») (now «column_lacks») (now faulty) ⌝ }
     requires group { ⌜ Picked rows columns (chosen .which) (chosen .first) (chosen .step) (chosen .count) ⌝ }
-    ensures { λ _. ⌜ Makes rows columns (now (out .entry)) (now (marks .entry)) (now («row_lacks» .entry) ++ now («column_lacks» .entry)) (now (faulty .entry))
-        (now (out .exit)) (now (marks .exit)) (now («row_lacks» .exit) ++ now («column_lacks» .exit)) (now (faulty .exit))
-        (λ parity. visit (readLine lineLayer) (groupOf rows columns parity (numberOf rows (chosen .which)))) ⌝ }
+    ensures { λ _. ⌜ Makes rows columns (now (out .entry)) (now (marks .entry))
+        (now («row_lacks» .entry) ++ now («column_lacks» .entry)) (now (faulty .entry))
+        (now (out .exit)) (now (marks .exit)) (now («row_lacks» .exit) ++ now («column_lacks» .exit))
+        (now (faulty .exit)) (λ parity. visit (readLine lineLayer) (groupOf rows columns parity (numberOf rows (chosen .which)))) ⌝ }
 {
     try_group(
         table,

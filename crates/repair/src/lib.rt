@@ -103,8 +103,10 @@ fn steps(
 ) -> Repaired
     requires table { ⌜ now table ≡ lineTable ⌝ }
     requires room { ⌜ Rectangular rows columns (now out) (now marks) × (length (now found) ≡ rows * columns * 70)
-        × (length (now «row_lacks») ≡ rows * 70) × (length (now «column_lacks») ≡ columns * 70) × (length (now «parity_marks») ≡ 1024) ⌝ }
-    requires some { ⌜ ((parity : (ℕ → Word)) × Tracked rows columns parity (now «row_lacks» ++ now «column_lacks») (replicate 1024 0) []) ⌝ }
+        × (length (now «row_lacks») ≡ rows * 70) × (length (now «column_lacks») ≡ columns * 70)
+        × (length (now «parity_marks») ≡ 1024) ⌝ }
+    requires some { ⌜ ((parity : (ℕ → Word))
+        × Tracked rows columns parity (now «row_lacks» ++ now «column_lacks») (replicate 1024 0) []) ⌝ }
     ensures { λ r. ⌜ ((parity : ℕ → Word)
         → Tracked rows columns parity (now («row_lacks» .entry) ++ now («column_lacks» .entry)) (replicate 1024 0) []
         → Finished rows columns (now («parity_marks» .entry)) parity (now (found .entry)) (now (out .exit)) (now (marks .exit))

@@ -44,9 +44,10 @@ pub fn visit_all(
     requires table { ⌜ now table ≡ lineTable ⌝ }
     requires ready { ⌜ Ready rows columns (now out) (now marks) (now «row_lacks») (now «column_lacks») (now faulty) ⌝ }
     requires marks { ⌜ length (now «parity_marks») ≡ 1024 ⌝ }
-    ensures { λ _. ⌜ Makes rows columns (now (out .entry)) (now (marks .entry)) (now («row_lacks» .entry) ++ now («column_lacks» .entry)) (now (faulty .entry))
-        (now (out .exit)) (now (marks .exit)) (now («row_lacks» .exit) ++ now («column_lacks» .exit)) (now (faulty .exit))
-        (λ parity. pass (readLine lineLayer) (allGroups rows columns (now («parity_marks» .entry)) parity)) ⌝ }
+    ensures { λ _. ⌜ Makes rows columns (now (out .entry)) (now (marks .entry))
+        (now («row_lacks» .entry) ++ now («column_lacks» .entry)) (now (faulty .entry))
+        (now (out .exit)) (now (marks .exit)) (now («row_lacks» .exit) ++ now («column_lacks» .exit))
+        (now (faulty .exit)) (λ parity. pass (readLine lineLayer) (allGroups rows columns (now («parity_marks» .entry)) parity)) ⌝ }
 {
     let groups = rows + columns;
     let mut k = 0;
@@ -85,9 +86,10 @@ pub fn run_passes(
     requires table { ⌜ now table ≡ lineTable ⌝ }
     requires ready { ⌜ Ready rows columns (now out) (now marks) (now «row_lacks») (now «column_lacks») (now faulty) ⌝ }
     requires marks { ⌜ length (now «parity_marks») ≡ 1024 ⌝ }
-    ensures { λ r. ⌜ RanPasses rows columns (now («parity_marks» .entry)) (now (out .entry)) (now (marks .entry)) (now («row_lacks» .entry) ++ now («column_lacks» .entry)) (now (faulty .entry))
-        (now (out .exit)) (now (marks .exit)) (now («row_lacks» .exit) ++ now («column_lacks» .exit)) (now (faulty .exit))
-        r ⌝ }
+    ensures { λ r. ⌜ RanPasses rows columns (now («parity_marks» .entry)) (now (out .entry)) (now (marks .entry))
+        (now («row_lacks» .entry) ++ now («column_lacks» .entry)) (now (faulty .entry))
+        (now (out .exit)) (now (marks .exit)) (now («row_lacks» .exit) ++ now («column_lacks» .exit))
+        (now (faulty .exit)) r ⌝ }
 {
     let mut passes: usize = 0;
     let mut before = groups::count_faulty(rows, faulty);
