@@ -1,7 +1,7 @@
 -- What the first reading asks of lent buffers, and what it makes of the store in them.
 use mathlib.Core.Path.{_≡_}
 use mathlib.Core.List.{List, _++_, map}
-use Prim.Native.Nat.{ℕ, _+_, _-_, _*_, _≤_, _<_}
+use Prim.Native.Nat.{ℕ, _+_, _*_, _≤_, _<_}
 use lib.ListN.{length, getD, drop}
 use Rattle.gf2.specs.Word.{Word}
 use Rattle.linecode.specs.Code.{upFrom}

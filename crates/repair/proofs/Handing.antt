@@ -6,7 +6,6 @@ use mathlib.Core.List.{List, [], _∷_, _++_, map}
 use Prim.Native.Nat.{ℕ, zero, suc, _+_, _*_, _≤_, _<_}
 use native.Mathlib.Nat.{zero-add}
 use native.Mathlib.Omega.{arith}
-use borrow.Author.Tests.{eq-eqb, ne-eqb}
 use lib.Dec.{eqb}
 use lib.ListN.{length, getD, replicate, length-replicate, getD-replicate}
 use Rattle.gf2.specs.Word.{Word, _⊕_, zeros}
@@ -20,12 +19,12 @@ use Rattle.scheme.specs.Repair.{Repaired, readAll, faultyCount, agrees, passesF
 use Rattle.scheme.specs.Parity.{readParity, unusable, parityAfter}
 use Rattle.scheme.specs.Demand3.{_∈_}
 use Rattle.scheme.proofs.Width.{read-width}
-use Rattle.rectangle.specs.Store.{lineLayer, placesAt, bytesAt, linesIn, bufferOf, stride, rowGroup, columnGroup, rowGroups, columnGroups}
+use Rattle.rectangle.specs.Store.{lineLayer, bytesAt, linesIn, bufferOf, stride, rowGroup, columnGroup, rowGroups, columnGroups}
 use Rattle.rectangle.specs.Repair.{usedGroups, repairedBy, tableAfter, handedOver, StoreRepaired}
 use Rattle.rectangle.proofs.Spare.{bytes-is}
 use Rattle.rectangle.proofs.Buffer.{length-placesAt}
 use Rattle.rectangle.proofs.LineLayer.{kept}
-use Rattle.groups.specs.Lent.{Holding, Beside, Tracked, Carried, Rectangular, Room, Numbered, membersOf, groupOf}
+use Rattle.groups.specs.Lent.{Beside, Tracked, Carried, Rectangular, Room, Numbered, membersOf, groupOf}
 use Rattle.groups.proofs.Numbers.{by-number, any-numbered, members-inside}
 use Rattle.groups.proofs.Held.{held-count}
 use Rattle.groups.proofs.Joined.{first-at, second-at}

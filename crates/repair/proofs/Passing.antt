@@ -14,6 +14,7 @@ use Rattle.scheme.specs.Layer.{Reading, readLine}
 use Rattle.scheme.specs.Visit.{Group, State, settle, trial, visit}
 use Rattle.scheme.specs.Repair.{pass}
 use Rattle.scheme.specs.Parity.{noLines}
+use Rattle.scheme.proofs.Parity.{nothing-to-visit}
 use Rattle.rectangle.specs.Store.{lineLayer}
 use Rattle.groups.specs.Lent.{Room, Carried, Some, Makes, Numbered, groupOf}
 use Rattle.repair.specs.Lent.{usedGroup, allGroups}
@@ -21,11 +22,6 @@ use Rattle.groups.proofs.Numbers.{any-numbered}
 use Rattle.mending.proofs.Settling.{unsettled}
 use Rattle.mending.proofs.Mismatching.{few-faulty}
 use Rattle.mending.proofs.Trying.{four}
-
--- a group without lines has nothing to visit
-no-lines : (read : Reading) (s : State) → visit read noLines s ≡ s
-unfolding visit trial settle
-no-lines read s = refl
 
 -- a visit by its two parts
 visits : (read : Reading) (g : Group) (s : State) → visit read g s ≡ settle g (trial read g s)
@@ -109,7 +105,7 @@ module _ (rows columns : ℕ) (pm out₀ marks₀ lacks₀ faulty₀ out marks l
 
       go : (parity : ℕ → Word) (s : State) → Carried rows columns parity out marks lacks faulty s → (b : Bool) → (b ≡ false → getD faulty k 0 ≡ 0)
           → Carried rows columns parity out marks lacks faulty (visit (readLine lineLayer) (cond b noLines (groupOf rows columns parity k)) s)
-      go parity s c true y = subst (Carried rows columns parity out marks lacks faulty) (sym (no-lines (readLine lineLayer) s)) c
+      go parity s c true y = subst (Carried rows columns parity out marks lacks faulty) (sym (nothing-to-visit (readLine lineLayer) s)) c
       go parity s c false y =
           subst (Carried rows columns parity out marks lacks faulty) (sym (visits (readLine lineLayer) (groupOf rows columns parity k) s))
           (unsettled rows columns out marks lacks faulty (p .room) k (chosen .0) (chosen .1) (chosen .2) (chosen .3) parity

@@ -1,20 +1,18 @@
 -- A table filled line by line and the marks beside it, for groups of any direction: what the differences start from, and the parity lines
 -- as they are handed over.
 use mathlib.Core.Path.{_≡_, refl, sym, ap, _∙_}
-use mathlib.Core.Bool.{Bool, true, false, cond, true≢false, _&&_, and-eq-true-iff}
+use mathlib.Core.Bool.{Bool, true, false, cond, _&&_, and-eq-true-iff}
 use mathlib.Core.List.{List, map}
 use Prim.Native.Nat.{ℕ, _+_, _*_, _≤_, _<_}
 use native.Mathlib.Decide.{ℕ-discrete}
 use native.Mathlib.Omega.{arith}
-use borrow.Author.Tests.{eqb-true}
 use lib.Dec.{eqb}
-use lib.ListN.{length, take, getD, set, replicate, length-set}
+use lib.ListN.{length, getD, set, replicate, length-set}
 use lib.Seq.{getD-set-same, getD-set-other, take-all}
 use Rattle.gf2.specs.Word.{Word, zeros}
 use Rattle.linecode.specs.Places.{linePlaces, lineOf}
 use Rattle.linecode.specs.Code.{upFrom}
 use Rattle.linecode.specs.declared.alone.Reading.{Reading}
-use Rattle.scheme.specs.Layer.{Cell}
 use Rattle.scheme.specs.Visit.{Group, State, lineAt, sum}
 use Rattle.scheme.specs.Repair.{faultyCount}
 use Rattle.scheme.specs.Parity.{readParity, unusable, parityAfter}

@@ -9,7 +9,7 @@ use borrow.Author.Tests.{eqb-true, eqb-false, leb-true, leb-false}
 use lib.Dec.{eqb, leb}
 use lib.ListN.{length}
 use Rattle.gf2.specs.Word.{Word, distance}
-use Rattle.scheme.specs.Layer.{Layer, CorrectLine, parityAddress, ReadsAs, Promises}
+use Rattle.scheme.specs.Layer.{Reading, Layer, CorrectLine, parityAddress, ReadsAs, Promises}
 use Rattle.scheme.specs.Visit.{Group, State, lineAt, sum, settle, trial, visit}
 use Rattle.scheme.specs.Repair.{faultyCount}
 use Rattle.scheme.specs.Parity.{readParity, unusable, noLines, asRead, parityAfter, UnusableIdle}
@@ -22,9 +22,13 @@ pub without-lines : (layer : Layer) (g : Group) → unusable layer g ≡ true �
 unfolding asRead
 without-lines layer g e = rw e
 
-pub unusable-idle : UnusableIdle
+-- there is nothing to visit in a group without lines
+pub nothing-to-visit : (read : Reading) (s : State) → visit read noLines s ≡ s
 unfolding visit trial settle
-unusable-idle layer g e read s = rw (without-lines layer g e)
+nothing-to-visit read s = refl
+
+pub unusable-idle : UnusableIdle
+unusable-idle layer g e read s = rw (without-lines layer g e) (nothing-to-visit read s)
 
 -- groups as read rise where those found do
 pub rising-read : (layer : Layer) (gs : List Group) → RisingGroups gs → RisingGroups (map (asRead layer) gs)

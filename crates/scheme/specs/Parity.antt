@@ -2,7 +2,7 @@
 -- groups, whatever their direction.
 use mathlib.Core.Path.{_≡_}
 use mathlib.Core.Bool.{Bool, true, cond, _&&_}
-use mathlib.Core.List.{List, []}
+use mathlib.Core.List.{[]}
 use lib.Dec.{eqb}
 use Rattle.gf2.specs.Word.{Word}
 use Rattle.scheme.specs.Layer.{Cell, Reading, Layer, parityAddress}

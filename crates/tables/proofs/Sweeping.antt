@@ -1,19 +1,18 @@
 -- The sweep over all rows, one after the other, and its sums as tables.
-use mathlib.Core.Path.{_≡_, sym, ap, ap₂, _∙_}
+use mathlib.Core.Path.{_≡_, sym, ap, _∙_}
 use mathlib.Core.Bool.{Bool, true, false, true≢false}
-use mathlib.Core.List.{List, [], _++_, map, append-nil, append-assoc}
-use Prim.Native.Nat.{ℕ, zero, suc, _+_, _-_, _*_, _≤_, _<_}
-use native.Mathlib.Nat.{suc-mul, zero-mul, add-suc, suc-add, add-zero, zero-add, mul-le-mul-right}
+use mathlib.Core.List.{List, []}
+use Prim.Native.Nat.{ℕ, suc, _+_, _-_, _*_, _≤_, _<_}
+use native.Mathlib.Nat.{suc-mul, zero-mul, mul-le-mul-right}
 use native.Mathlib.Numerals.{add-one}
 use native.Mathlib.Decide.{decLe}
 use native.Mathlib.Omega.{arith}
 use borrow.Author.Count.{below-more}
-use lib.ListN.{length, take, replicate, length-replicate, getD-replicate}
-use lib.Seq.{take-add, ext-getD}
-use Rattle.gf2.specs.Word.{Word}
+use lib.ListN.{length, replicate, length-replicate, getD-replicate}
+use lib.Seq.{ext-getD}
 use Rattle.linecode.specs.Places.{lineBytes, lineOf}
 use Rattle.linecode.specs.Code.{upFrom}
-use Rattle.rectangle.specs.Store.{bytesAt, placesAt, bufferOf, putBytes, putLine, row, column}
+use Rattle.rectangle.specs.Store.{bytesAt, placesAt, putBytes, putLine, row, column}
 use Rattle.rectangle.specs.Refusals.{acceptedAt}
 use Rattle.rectangle.specs.Tables.{rowParity, columnParity, rowTableOf, columnTableOf}
 use Rattle.tables.specs.Sweep.{RowUnswept, RowSwept, Unswept, Swept}

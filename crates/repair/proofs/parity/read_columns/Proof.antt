@@ -1,7 +1,6 @@
 -- `repair::parity::read_columns` meets its contract: after c turns the first c parity lines are read.
-use mathlib.Core.Path.{_≡_, refl, sym, ap, _∙_}
-use Prim.Native.Nat.{ℕ, _-_}
-use native.Mathlib.Nat.{zero-add}
+use mathlib.Core.Path.{refl, sym, ap, _∙_}
+use Prim.Native.Nat.{_-_}
 use native.Mathlib.Omega.{arith}
 use Rattle.linecode.specs.Places.{places}
 use Rattle.scheme.specs.Parity.{readParity}

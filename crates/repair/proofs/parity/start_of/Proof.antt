@@ -1,5 +1,4 @@
 -- `repair::parity::start_of` meets its contract.
-use mathlib.Core.Path.{refl}
 use borrow.Author.Tests.{eq-eqb, ne-eqb}
 use Rattle.repair.proofs.parity.start_of.Statement.{statement}
 use Rattle.repair.proofs.parity.start_of.Tie as tie
