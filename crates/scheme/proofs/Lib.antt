@@ -1,6 +1,6 @@
 -- Laws of the SuDoku steps, over any list of groups: accepted lines stay (Stays), accepted marks decide nothing (Readings), the passes
 -- (Passes), demand 3 (ExactReturn, NotAlike), no line mended into another (NoneWrong), parity lines
--- read alone (Parity, Used), and what these rest on.
+-- read alone (Parity, Used), accepted lines are correct (Sound), and what these rest on.
 pub mod Case
 pub mod Lists
 pub mod Words
@@ -9,6 +9,7 @@ pub mod Written
 pub mod Grows
 pub mod Steps
 pub mod Passes
+pub mod Every
 pub mod Stays
 pub mod Readings
 pub mod Width
@@ -16,6 +17,7 @@ pub mod Marking
 pub mod Faithful
 pub mod Parity
 pub mod Used
+pub mod Sound
 pub mod NoneWrong
 pub mod Mends
 pub mod Pair

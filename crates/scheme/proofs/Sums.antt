@@ -36,14 +36,20 @@ without-absent n [] h = refl
 without-absent n (m ∷ ms) h =
     rw (ne-eqb m n (λ e. h (inl (sym e)))) (ap (λ (l : List ℕ). m ∷ l) (without-absent n ms (λ i. h (inr i))))
 
+-- a total over a group: what line n gives and what the others do
+module _ {A : Type 0} (add : A → A → A) (assoc : (a b c : A) → add (add a b) c ≡ add a (add b c)) (comm : (a b : A) → add a b ≡ add b a)
+    (f : ℕ → A) (total : List ℕ → A) (more : (n : ℕ) (ns : List ℕ) → total (n ∷ ns) ≡ add (f n) (total ns)) where
+  pub total-split : (n : ℕ) (ns : List ℕ) → Rising ns → n ∈ ns → total ns ≡ add (f n) (total (without n ns))
+  total-split n [] r h = absurd h
+  total-split n (m ∷ ms) r (inl p) =
+      let absent : n ∈ ms → ⊥ = λ i. lt-irrefl n (rw (← p) at (r .0 n i)) in
+      more m ms ∙ rw (eq-eqb m n (sym p), without-absent n ms absent, p)
+  total-split n (m ∷ ms) r (inr i) =
+      rw (ne-eqb m n (λ e. lt-irrefl n (rw e at (r .0 n i))))
+      (more m ms ∙ ap (add (f m)) (total-split n ms (r .1) i) ∙ sym (assoc (f m) (f n) (total (without n ms)))
+      ∙ ap (λ (a : A). add a (total (without n ms))) (comm (f m) (f n)) ∙ assoc (f n) (f m) (total (without n ms))
+      ∙ ap (add (f n)) (sym (more m (without n ms))))
+
 -- a line of the group and the others
 pub sum-split : (f : ℕ → Word) (n : ℕ) (ns : List ℕ) → Rising ns → n ∈ ns → sum f ns ≡ f n ⊕ sum f (without n ns)
-sum-split f n [] r h = absurd h
-sum-split f n (m ∷ ms) r (inl p) =
-    let absent : n ∈ ms → ⊥ = λ i. lt-irrefl n (rw (← p) at (r .0 n i)) in
-    rw (eq-eqb m n (sym p), without-absent n ms absent, p)
-sum-split f n (m ∷ ms) r (inr i) =
-    rw (ne-eqb m n (λ e. lt-irrefl n (rw e at (r .0 n i))))
-    (ap (λ (w : Word). f m ⊕ w) (sum-split f n ms (r .1) i) ∙ sym (xor-assoc (f m) (f n) (sum f (without n ms)))
-    ∙ ap (λ (w : Word). w ⊕ sum f (without n ms)) (xor-comm (f m) (f n))
-    ∙ xor-assoc (f n) (f m) (sum f (without n ms)))
+sum-split f = total-split _⊕_ xor-assoc xor-comm f (sum f) (λ n ns. refl)

@@ -3,14 +3,14 @@
 use mathlib.Core.Path.{_≡_, refl, ap, _∙_}
 use mathlib.Core.Logic.{_⊎_, inl, inr}
 use mathlib.Core.Bool.{Bool, true, false}
-use Prim.Native.Nat.{_≤_}
+use Prim.Native.Nat.{ℕ, _≤_}
 use native.Mathlib.Omega.{arith}
 use borrow.Author.Tests.{eq-eqb, ne-eqb, eqb-true, eqb-false}
 use lib.ListN.{length}
 use Rattle.gf2.specs.Word.{Word}
 use Rattle.gf2.proofs.Weight.{distance-self}
 use Rattle.scheme.specs.Layer.{Layer, parityAddress, Promises}
-use Rattle.scheme.specs.Visit.{Group, State, lineAt, sum}
+use Rattle.scheme.specs.Visit.{Group, State, lineAt, isFaulty, sum}
 use Rattle.scheme.specs.Repair.{faultyCount}
 use Rattle.scheme.specs.Parity.{readParity, unusable, asRead, parityAfter}
 use Rattle.scheme.proofs.Faithful.{accepted-mark}
@@ -33,6 +33,17 @@ module _ (layer : Layer) where
     unfolding parityAfter
     left-afresh e z = rw (e, eq-eqb (faultyCount s) 0 z)
 
+  module _ (promises : Promises layer) where
+    -- what is accepted is read as a correct line
+    pub reads-correct : (a : ℕ) (found : Word) → length found ≡ layer .width → isFaulty (layer .read a found) ≡ false
+        → layer .Correct a (layer .read a found .line)
+    reads-correct a found h e = go (promises .sound a found h)
+      where
+        go : (layer .read a found .mark ≡ 4) ⊎ ((layer .read a found .mark ≤ 1) × layer .Correct a (layer .read a found .line))
+            → layer .Correct a (layer .read a found .line)
+        go (inl q) = absurd (eqb-false _ 4 e q)
+        go (inr c) = c .1
+
   module _ (promises : Promises layer) (g : Group) (sized : length (g .parity) ≡ layer .width) where
     pub left-found : (s : State) → unusable layer g ≡ true → (faultyCount s ≡ 0 → ⊥) → parityAfter layer s g ≡ g .parity
     unfolding parityAfter unusable
@@ -41,13 +52,7 @@ module _ (layer : Layer) where
     -- an accepted one is a correct line
     pub accepted-correct : unusable layer g ≡ false → layer .Correct (parityAddress layer (g .members)) (readParity layer g .line)
     unfolding unusable
-    accepted-correct e = go (promises .sound _ (g .parity) sized)
-      where
-        go : (readParity layer g .mark ≡ 4)
-            ⊎ ((readParity layer g .mark ≤ 1) × layer .Correct (parityAddress layer (g .members)) (readParity layer g .line))
-            → layer .Correct (parityAddress layer (g .members)) (readParity layer g .line)
-        go (inl q) = absurd (eqb-false _ 4 e q)
-        go (inr c) = c .1
+    accepted-correct e = reads-correct promises _ (g .parity) sized e
 
     -- as read, a group that has lines has a parity line of all places
     pub used-wide : WideGroup (layer .width) (asRead layer g)

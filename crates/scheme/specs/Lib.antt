@@ -1,9 +1,10 @@
--- The SuDoku steps as document 01 makes them exact: read Layer, then Visit, Repair, Parity, Marks, Stays, Readings, and last Demand3.
+-- The SuDoku steps as document 01 makes them exact: read Layer, then Visit, Repair, Parity, Sound, Marks, Stays, Readings, and last Demand3.
 -- Case is a worked case.
 pub mod Layer
 pub mod Visit
 pub mod Repair
 pub mod Parity
+pub mod Sound
 pub mod Marks
 pub mod Stays
 pub mod Readings
