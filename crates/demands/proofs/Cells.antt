@@ -13,7 +13,7 @@ use Rattle.gf2.proofs.Xor.{length-xor}
 use Rattle.linecode.specs.Places.{linePlaces, lineOf}
 use Rattle.scheme.specs.Layer.{parityAddress}
 use Rattle.scheme.specs.Visit.{Group, State, lineAt, sum}
-use Rattle.scheme.specs.Repair.{agrees, answer}
+use Rattle.scheme.specs.Repair.{faultyCount, agrees, answer}
 use Rattle.scheme.specs.Parity.{readParity, unusable, noLines, asRead, parityAfter}
 use Rattle.scheme.specs.Demand3.{_∈_}
 use Rattle.scheme.proofs.Sums.{sum-ext, sum-length}
@@ -21,9 +21,10 @@ use Rattle.scheme.proofs.Words.{isZero-self}
 use Rattle.scheme.proofs.Width.{read-width}
 use Rattle.scheme.proofs.Parity.{without-lines}
 use Rattle.scheme.proofs.Used.{usable, left-accepted, left-afresh, left-found, accepted-correct, used-as-found}
+use Rattle.scheme.proofs.Sound.{repair-sound}
 use Rattle.rectangle.specs.Store.{lineLayer, bytesAt, placesAt, row, column, rowGroups, columnGroups, groups}
 use Rattle.rectangle.specs.Refusals.{every}
-use Rattle.rectangle.specs.Repair.{StoreRepaired, usedGroups, tableAfter, handsOver, handedOver}
+use Rattle.rectangle.specs.Repair.{StoreRepaired, usedGroups, repairedBy, tableAfter, handsOver, handedOver}
 use Rattle.rectangle.proofs.Groups.{sides, by-groups, groups-inside}
 use Rattle.rectangle.proofs.Stride.{in-stride}
 use Rattle.rectangle.proofs.LineLayer.{kept}
@@ -34,7 +35,7 @@ use Rattle.demands.specs.Demands.{Rectangle, count, Buffers, repairOf, g
 use Rattle.demands.specs.Cells.{TableGiven, TablesGiven, Differs, AcceptedCompared, CorrectAsFound}
 use Rattle.demands.proofs.Refused.{answer-left, answer-none, answer-agree, answer-differ, handed, sizes}
 use Rattle.demands.proofs.TableLines.{table-bytes, table-line}
-use Rattle.demands.proofs.Handed.{end, some-columns, parity-places, line-places, places-given}
+use Rattle.demands.proofs.Handed.{found, end, some-columns, parity-places, all-places, line-places, places-given}
 
 -- what stands at a number inside a list is in it
 at-in : {A : Type 0} (l : List A) (n : ℕ) (d : A) → n < length l → getD l n d ∈ l
@@ -49,7 +50,7 @@ rowsOf r = rowGroups (r .rows) (r .columns) (r .rowTable)
 abbrev columnsOf : Rectangle → List Group
 columnsOf r = columnGroups (r .rows) (r .columns) (r .columnTable)
 
-abbrev allOf : Rectangle → List Group
+abbrev pub allOf : Rectangle → List Group
 allOf r = groups (r .rows) (r .columns) (r .rowTable) (r .columnTable)
 
 -- the answer looks at each group as read
@@ -61,7 +62,7 @@ agrees-every s [] = refl
 agrees-every s (g ∷ gs) = ap (λ (t : Bool). agreesWith s g && t) (agrees-every s gs)
 
 -- some lines of k places have a sum of k places
-sum-places : (k : ℕ) (line : ℕ → Word) (ns : List ℕ) (m : ℕ) → m ∈ ns → ((n : ℕ) → n ∈ ns → length (line n) ≡ k)
+pub sum-places : (k : ℕ) (line : ℕ → Word) (ns : List ℕ) (m : ℕ) → m ∈ ns → ((n : ℕ) → n ∈ ns → length (line n) ≡ k)
     → length (sum line ns) ≡ k
 sum-places k line [] m i h = absurd i
 sum-places k line (n ∷ ns) m i h =
@@ -69,11 +70,11 @@ sum-places k line (n ∷ ns) m i h =
     ∙ omega (arith, h n (inl refl), sum-length k line ns (λ j a. omega (arith, h j (inr a))))
 
 module _ (r : Rectangle) (b : Buffers) (over : handsOver (repairOf r b .answer) ≡ true) where
-  answer-given : repairOf r b .answer ≡ answer (groupsOf r) (end r)
+  pub answer-given : repairOf r b .answer ≡ answer (groupsOf r) (end r)
   unfolding end handedOver
   answer-given = ap (λ (s : StoreRepaired). s .answer) (handed r b over)
 
-  inside : (g : Group) → g ∈ allOf r → (n : ℕ) → n ∈ g .members → n < count r
+  pub inside : (g : Group) → g ∈ allOf r → (n : ℕ) → n ∈ g .members → n < count r
   inside = groups-inside (r .rows) (r .columns) (some-columns kept r b over) (r .rowTable) (r .columnTable)
 
   -- a group's lines as they are handed over
@@ -81,14 +82,22 @@ module _ (r : Rectangle) (b : Buffers) (over : handsOver (repairOf r b .answer) 
   sum-given g i =
       sum-ext (placesAt (repairOf r b .lines)) (lineAt (end r)) (g .members) (λ n j. places-given kept r b over n (inside g i n j))
 
-  -- ---- what the answer compares
-  some-line : (g : Group) → g ∈ allOf r → (n : ℕ) × (n ∈ g .members)
+  -- a group has lines
+  pub some-line : (g : Group) → g ∈ allOf r → (n : ℕ) × (n ∈ g .members)
   unfolding row column
   some-line =
       by-groups (r .rows) (r .columns) (some-columns kept r b over) (r .rowTable) (r .columnTable) (λ g. (n : ℕ) × (n ∈ g .members))
       (λ k h. (_, in-stride (k * r .columns) 1 (r .columns) 0 (some-columns kept r b over)))
       (λ k h. (_, in-stride k (r .columns) (r .rows) 0 (omega (arith, sides (r .rows) (r .columns) (sizes r b over .sides) .rowsLow))))
 
+  -- where no line is left faulty, its parity line is a correct line
+  left-correct : faultyCount (end r) ≡ 0 → (g : Group) → g ∈ allOf r
+      → lineLayer .Correct (parityAddress lineLayer (g .members)) (parityAfter lineLayer (end r) g)
+  unfolding end found repairedBy usedGroups
+  left-correct none g i =
+      repair-sound lineLayer kept .parities (allOf r) (found r) (all-places kept r b over) none g i (some-line g i .0) (some-line g i .1)
+
+  -- ---- what the answer compares
   compared : repairOf r b .answer ≡ 0 → (g : Group) → g ∈ allOf r → unusable lineLayer g ≡ false
       → sum (placesAt (repairOf r b .lines)) (g .members) ≡ readParity lineLayer g .line
   unfolding usedGroups
@@ -161,6 +170,9 @@ module _ (r : Rectangle) (b : Buffers) (over : handsOver (repairOf r b .answer) 
               ∙ ap lineOf
               (left-afresh lineLayer (end r) (at k) u (answer-none (groupsOf r) (end r) (λ e. d (answer-given ∙ e)))
               ∙ sym (sum-given (at k) (listed k h)));
+          allCorrect = λ d k h.
+              let c = left-correct (answer-none (groupsOf r) (end r) (λ e. d (answer-given ∙ e))) (at k) (listed k h) in
+              rw (line-is k h, places-lineOf (parityAfter lineLayer (end r) (at k)) (kept .sized _ _ c)) c;
         }
       where
         at : ℕ → Group

@@ -11,12 +11,10 @@ use Rattle.linecode.specs.Places.{linePlaces, lineBytes, places, lineOf}
 use Rattle.linecode.specs.Code.{upFrom}
 use Rattle.scheme.specs.Layer.{Cell, readLine, Promises}
 use Rattle.scheme.specs.Visit.{Group, State, cellAt, lineAt, isFaulty, select}
-use Rattle.scheme.specs.Repair.{readAll, faultyCount, repair, linesOf, marksOf}
-use Rattle.scheme.specs.Parity.{asRead}
+use Rattle.scheme.specs.Repair.{readAll, faultyCount, linesOf, marksOf}
+use Rattle.scheme.specs.Sound.{AllPlaces}
 use Rattle.scheme.specs.Demand3.{_∈_}
-use Rattle.scheme.proofs.Lists.{map-from}
-use Rattle.scheme.proofs.Width.{read-width, Wide, wide-at, wide-passes}
-use Rattle.scheme.proofs.Used.{used-wide}
+use Rattle.scheme.proofs.Sound.{left-places}
 use Rattle.scheme.proofs.Passes.{repair-passes-none, repair-passes-bound}
 use Rattle.scheme.proofs.Stays.{first-reading-at, repair-stays, repair-length, faulty-as-found}
 use Rattle.rectangle.specs.Store.{lineLayer, bytesAt, placesAt, linesIn, bufferOf, aloneAt, groups}
@@ -25,8 +23,7 @@ use Rattle.rectangle.specs.Repair.{usedGroups, repairedBy, handsOver, handedOve
 use Rattle.demands.specs.Demands.{Rectangle, count, Buffers, repairOf, groupsOf, stepsOn, faultyAlone, PassesOf, PassesReturned, GivenAsRead, AcceptedNeverAltered, FaultyAsFound}
 use Rattle.rectangle.proofs.Alone.{read-from}
 use Rattle.rectangle.proofs.Buffer.{length-placesAt, length-linesIn, linesIn-at, bytesAt-bufferOf}
-use Rattle.rectangle.proofs.Groups.{sides, by-groups}
-use Rattle.rectangle.proofs.Loops.{reading-wide}
+use Rattle.rectangle.proofs.Groups.{sides, by-groups, rising-groups, groups-inside}
 use Rattle.rectangle.proofs.Spare.{places-lineOf}
 use Rattle.demands.proofs.Refused.{handed, sizes}
 use Rattle.demands.proofs.TableLines.{in-range}
@@ -74,14 +71,20 @@ module _ (r : Rectangle) where
         most = omega (arith, first-count, repair-passes-bound (readLine lineLayer) (groupsOf r) found);
       }
 
+  found-length : length found ≡ count r
+  unfolding found
+  found-length = length-linesIn (count r) (r .lines)
+
+  pub end-length : length end ≡ count r
+  unfolding end found repairedBy
+  end-length = repair-length (readLine lineLayer) (groupsOf r) found ∙ found-length
+
   module _ (n : ℕ) (h : n < count r) where
     pub within : n < length found
-    unfolding found
-    within = omega (arith, length-linesIn (count r) (r .lines))
+    within = omega (arith, found-length)
 
     pub within-end : n < length end
-    unfolding end found repairedBy
-    within-end = omega (arith, within, repair-length (readLine lineLayer) (groupsOf r) found)
+    within-end = omega (arith, end-length)
 
     accepted-stays : acceptedAt (r .lines) n ≡ true → cellAt end n ≡ aloneAt (r .lines) n
     unfolding end found repairedBy acceptedAt aloneAt
@@ -147,18 +150,23 @@ module _ (promises : Promises lineLayer) (r : Rectangle) (b : Buffers)
       (length-placesAt (r .rows) (r .rowTable) (sizes r b over .rowBytes))
       (length-placesAt (r .columns) (r .columnTable) (sizes r b over .columnBytes))
 
-  end-wide : Wide linePlaces (end r)
-  unfolding end found repairedBy repair usedGroups
-  end-wide =
-      wide-passes linePlaces (readLine lineLayer) (λ n found. read-width lineLayer promises (lineLayer .address n) found) (groupsOf r)
-      (λ h i.
-      let g = map-from (asRead lineLayer) (groups (r .rows) (r .columns) (r .rowTable) (r .columnTable)) h i in
-      rw (g .2) (used-wide lineLayer promises (g .0) (parity-places (g .0) (g .1))))
-      (readAll (readLine lineLayer) 0 (found r)) (reading-wide promises (count r) (r .lines) line-bytes)
+  pub all-places : AllPlaces lineLayer (groups (r .rows) (r .columns) (r .rowTable) (r .columnTable)) (found r)
+  unfolding found
+  all-places =
+      record {
+        lines = λ n h.
+            let inside : n < count r = omega (arith, found-length r) in
+            ap length (linesIn-at (count r) (r .lines) n inside) ∙ length-placesAt (count r) (r .lines) line-bytes n inside;
+        parities = parity-places;
+        rising = rising-groups (r .rows) (r .columns) some-columns (r .rowTable) (r .columnTable);
+        inside = λ g i n j.
+            within r n (groups-inside (r .rows) (r .columns) some-columns (r .rowTable) (r .columnTable) g i n j);
+      }
 
   module _ (n : ℕ) (h : n < count r) where
     pub line-places : length (lineAt (end r) n) ≡ linePlaces
-    line-places = wide-at linePlaces (end r) n end-wide (within-end r n h)
+    unfolding end repairedBy usedGroups found
+    line-places = left-places lineLayer promises _ (found r) all-places n (within r n h)
 
     pub places-given : placesAt (repairOf r b .lines) n ≡ lineAt (end r) n
     unfolding end handedOver placesAt

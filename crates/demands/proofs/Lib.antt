@@ -8,6 +8,7 @@ pub mod Cells
 -- The demands: read Kept last.
 pub mod Parity
 pub mod ParityLines
+pub mod Sound
 pub mod Written
 pub mod Damaged
 pub mod Order

@@ -1,12 +1,11 @@
 -- "Of correct lines a parity line is itself a correct line": tables made from lines that read alone as accepted.
 use mathlib.Core.Path.{_≡_, ap}
-use mathlib.Core.Logic.{_⊎_, inl, inr}
 use mathlib.Core.Bool.{true, not}
 use mathlib.Core.List.{List}
-use Prim.Native.Nat.{ℕ, zero, suc, _+_, _*_, _≤_, _<_}
+use Prim.Native.Nat.{ℕ, zero, suc, _+_, _*_, _<_}
 use native.Mathlib.Nat.{not-suc-le-zero}
 use native.Mathlib.Omega.{arith}
-use borrow.Author.Tests.{eqb-false, ne-eqb, not-true}
+use borrow.Author.Tests.{ne-eqb, not-true}
 use lib.ListN.{length}
 use Rattle.gf2.specs.Word.{Word}
 use Rattle.gf2.proofs.Weight.{distance-self}
@@ -14,6 +13,7 @@ use Rattle.linecode.specs.Places.{lineBytes}
 use Rattle.scheme.specs.Layer.{readLine, CorrectLine, parityAddress, ReadsAs, Promises}
 use Rattle.scheme.specs.Visit.{sum}
 use Rattle.scheme.specs.Demand3.{_∈_}
+use Rattle.scheme.proofs.Used.{reads-correct}
 use Rattle.scheme.proofs.Written.{parity-correct}
 use Rattle.rectangle.specs.Store.{lineLayer, placesAt, aloneAt, stride, row, column, rowGroup, columnGroup}
 use Rattle.rectangle.specs.Refusals.{parityCorrect, acceptedAt}
@@ -51,14 +51,7 @@ module _ (promises : Promises lineLayer) where
     pub accepted-correct : (n : ℕ) → n < k → acceptedAt lines n ≡ true → CorrectLine lineLayer n (aloneAt lines n .line)
     unfolding acceptedAt aloneAt
     accepted-correct n h e =
-        go (promises .sound (lineLayer .address n) (placesAt lines n) (length-placesAt k lines whole n h))
-      where
-        go : (readLine lineLayer n (placesAt lines n) .mark ≡ 4)
-            ⊎ ((readLine lineLayer n (placesAt lines n) .mark ≤ 1)
-            × CorrectLine lineLayer n (readLine lineLayer n (placesAt lines n) .line))
-            → CorrectLine lineLayer n (readLine lineLayer n (placesAt lines n) .line)
-        go (inl q) = absurd (eqb-false _ 4 (not-true _ e) q)
-        go (inr c) = c .1
+        reads-correct lineLayer promises (lineLayer .address n) (placesAt lines n) (length-placesAt k lines whole n h) (not-true _ e)
 
   -- ---- the tables made from them
   module _ (rows columns : ℕ) (someRows : 0 < rows) (some : 0 < columns) (lines : List ℕ)

@@ -6,13 +6,13 @@ use mathlib.Core.List.{List}
 use Prim.Native.Nat.{ℕ, _*_, _≤_, _<_}
 use lib.ListN.{length, getD}
 use Rattle.linecode.specs.Places.{lineBytes, lineOf}
-use Rattle.scheme.specs.Layer.{parityAddress}
+use Rattle.scheme.specs.Layer.{CorrectLine, parityAddress}
 use Rattle.scheme.specs.Visit.{Group, sum}
 use Rattle.scheme.specs.Parity.{readParity, unusable, noLines}
 use Rattle.scheme.specs.Demand3.{_∈_}
 use Rattle.rectangle.specs.Store.{lineLayer, bytesAt, placesAt, rowGroups, columnGroups, groups}
 use Rattle.rectangle.specs.Repair.{handsOver}
-use Rattle.demands.specs.Demands.{Rectangle, count, Buffers, repairOf, groupsOf, EqualTables, SameShape, TurnsAmong, Order, DamagedSo, damage}
+use Rattle.demands.specs.Demands.{Rectangle, count, Buffers, repairOf, groupsOf, EqualTables, SameShape, TurnsAmong, Order, DamagedSo, damage, Agrees}
 
 -- ---- "accepted ones as read, faulty ones as found unless made afresh": the table of some groups, as it is handed over beside lines
 pub record TableGiven (gs : List Group) (lines table : List ℕ) (answer : ℕ) : Type 0 where
@@ -28,6 +28,9 @@ pub record TableGiven (gs : List Group) (lines table : List ℕ) (answer : ℕ) 
   -- "When no line is left faulty, unusable parity lines are made afresh.": the sum of its group's lines as they are handed over
   pub afresh : (answer ≡ 11 → ⊥) → (k : ℕ) → k < length gs → unusable lineLayer (getD gs k noLines) ≡ true
       → bytesAt table k ≡ lineOf (sum (placesAt lines) (getD gs k noLines .members))
+  -- and so then every one is a correct line
+  pub allCorrect : (answer ≡ 11 → ⊥) → (k : ℕ) → k < length gs
+      → lineLayer .Correct (parityAddress lineLayer (getD gs k noLines .members)) (placesAt table k)
 
 pub record TablesGiven : Type 0 where
   pub rows : (r : Rectangle) (b : Buffers) → handsOver (repairOf r b .answer) ≡ true
@@ -49,6 +52,27 @@ pub record AcceptedCompared : Type 0 where
       → sum (placesAt (repairOf r b .lines)) (g .members) ≡ readParity lineLayer g .line
   pub differ : (r : Rectangle) (b : Buffers) → repairOf r b .answer ≡ 12
       → Differs (groups (r .rows) (r .columns) (r .rowTable) (r .columnTable)) (repairOf r b .lines)
+
+-- ---- whatever was damaged: every line handed over with another mark than 4 is a correct line (a mark left out would be a 4)
+abbrev pub GivenCorrect : Type 0
+GivenCorrect =
+    (r : Rectangle) (b : Buffers) → handsOver (repairOf r b .answer) ≡ true
+    → (n : ℕ) → n < count r → (getD (repairOf r b .marks) n 4 ≡ 4 → ⊥) → CorrectLine lineLayer n (placesAt (repairOf r b .lines) n)
+
+-- ---- and with answer 0 what is handed over agrees with its tables, so that any of its lines can be changed at once
+-- the rectangle that repair hands over
+abbrev pub handed : Rectangle → Buffers → Rectangle
+handed r b =
+    record {
+      rows = r .rows;
+      columns = r .columns;
+      lines = repairOf r b .lines;
+      rowTable = repairOf r b .rowTable;
+      columnTable = repairOf r b .columnTable;
+    }
+
+abbrev pub WholeAfterZero : Type 0
+WholeAfterZero = (r : Rectangle) (b : Buffers) → repairOf r b .answer ≡ 0 → Agrees (handed r b)
 
 -- ---- where every parity line is correct, as demand 3 asked before, all groups are used as they are found
 abbrev pub CorrectAsFound : Type 0

@@ -2,9 +2,9 @@
 use mathlib.Core.Path.{_≡_, sym, ap, _∙_, subst}
 use mathlib.Core.Logic.{_⊎_, inl, inr}
 use mathlib.Core.List.{List, [], _∷_}
-use Prim.Native.Nat.{ℕ, zero, suc, _≤_, _<_}
+use Prim.Native.Nat.{ℕ, zero, suc, _≤_}
 use native.Mathlib.Omega.{arith}
-use lib.ListN.{length, getD, length-map, List·getD-map}
+use lib.ListN.{getD, length-map, List·getD-map}
 use Rattle.gf2.specs.Word.{Word}
 use Rattle.scheme.specs.Layer.{Cell, Reading, Layer, readLine, Promises}
 use Rattle.scheme.specs.Visit.{Group, State, cellAt}

@@ -107,6 +107,10 @@ module _ (layer : Layer) (promises : Promises layer) where
             rw (left-afresh layer s g e none)
             (some-correct (lineAt s) (g .members) n h (λ m j. end-fine m (all .inside g i m j) .1 (none-counted s none m)))
 
+    -- every line that is left has all places
+    pub left-places : (n : ℕ) → n < length found → length (lineAt (repair (readLine layer) (map (asRead layer) gs) found .cells) n) ≡ layer .width
+    left-places n h = end-fine n h .0
+
   pub repair-sound : RepairSound layer
   repair-sound =
       record { lines = λ gs found all n h d. end-fine gs found all n h .1 (ne-eqb _ 4 d); parities = parities-sound }

@@ -1,8 +1,8 @@
 -- Groups as read, whatever was written: which are used as found, what an accepted parity line is, and the three ways in which a parity
 -- line is left.
-use mathlib.Core.Path.{_≡_, refl, ap, _∙_}
+use mathlib.Core.Path.{_≡_, ap, _∙_}
 use mathlib.Core.Logic.{_⊎_, inl, inr}
-use mathlib.Core.Bool.{Bool, true, false}
+use mathlib.Core.Bool.{true, false}
 use Prim.Native.Nat.{ℕ, _≤_}
 use native.Mathlib.Omega.{arith}
 use borrow.Author.Tests.{eq-eqb, ne-eqb, eqb-true, eqb-false}
@@ -14,8 +14,6 @@ use Rattle.scheme.specs.Visit.{Group, State, lineAt, isFaulty, sum}
 use Rattle.scheme.specs.Repair.{faultyCount}
 use Rattle.scheme.specs.Parity.{readParity, unusable, asRead, parityAfter}
 use Rattle.scheme.proofs.Faithful.{accepted-mark}
-use Rattle.scheme.proofs.Parity.{without-lines}
-use Rattle.scheme.proofs.Width.{read-width, WideGroup}
 
 module _ (layer : Layer) where
   pub usable : (g : Group) → unusable layer g ≡ false
@@ -53,14 +51,6 @@ module _ (layer : Layer) where
     pub accepted-correct : unusable layer g ≡ false → layer .Correct (parityAddress layer (g .members)) (readParity layer g .line)
     unfolding unusable
     accepted-correct e = reads-correct promises _ (g .parity) sized e
-
-    -- as read, a group that has lines has a parity line of all places
-    pub used-wide : WideGroup (layer .width) (asRead layer g)
-    used-wide = go (unusable layer g) refl
-      where
-        go : (b : Bool) → unusable layer g ≡ b → WideGroup (layer .width) (asRead layer g)
-        go true e = rw (without-lines layer g e) (λ n i. absurd i)
-        go false e = rw (usable g e) (λ n i. read-width layer promises _ (g .parity) sized)
 
   -- a group with a correct parity line is used as found
   pub used-as-found : Promises layer → (g : Group) → layer .Correct (parityAddress layer (g .members)) (g .parity) → asRead layer g ≡ g
