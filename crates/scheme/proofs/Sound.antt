@@ -108,7 +108,8 @@ module _ (layer : Layer) (promises : Promises layer) where
             (some-correct (lineAt s) (g .members) n h (λ m j. end-fine m (all .inside g i m j) .1 (none-counted s none m)))
 
     -- every line that is left has all places
-    pub left-places : (n : ℕ) → n < length found → length (lineAt (repair (readLine layer) (map (asRead layer) gs) found .cells) n) ≡ layer .width
+    pub left-places : (n : ℕ) → n < length found
+        → length (lineAt (repair (readLine layer) (map (asRead layer) gs) found .cells) n) ≡ layer .width
     left-places n h = end-fine n h .0
 
   pub repair-sound : RepairSound layer
