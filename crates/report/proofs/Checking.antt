@@ -8,38 +8,38 @@ use Rattle.rectangle.specs.Repair.{StoreRepaired, handsOver, repairStore}
 use Rattle.storefile.specs.Header.{linesPart, rowTablePart, columnTablePart, bytesIn}
 use Rattle.storefile.specs.Opening.{opened}
 use Rattle.report.specs.Marks.{countsOf}
-use Rattle.report.specs.Check.{refusedWith, repairOpened, counted, checkStore}
+use Rattle.report.specs.Check.{Buffers, leftBy, refusedWith, repairOpened, counted, checkStore}
 use Rattle.storefile.specs.declared.header.Part.{Part}
 use Rattle.report.specs.declared.marks.Counts.{Counts}
 use Rattle.storefile.specs.declared.opening.Opened.{Opened}
 use Rattle.report.specs.declared.report.Checked.{Checked}
 
 -- repair of three bodies, each found as a part of the file
-pub repair-bodies : (file : List ℕ) (rows columns : ℕ) (out marks : List ℕ) (p q r : Part) (lines rowTable columnTable : List ℕ)
+pub repair-bodies : (file : List ℕ) (rows columns : ℕ) (b : Buffers) (p q r : Part) (lines rowTable columnTable : List ℕ)
     (s : StoreRepaired) → p ≡ linesPart rows columns → lines ≡ bytesIn file p → q ≡ rowTablePart rows columns
     → rowTable ≡ bytesIn file q → r ≡ columnTablePart rows columns → columnTable ≡ bytesIn file r
-    → s ≡ repairStore rows columns lines rowTable columnTable out marks → s ≡ repairOpened file rows columns out marks
+    → s ≡ repairStore rows columns lines rowTable columnTable (b .lines) (b .marks) (b .rowTable) (b .columnTable)
+    → s ≡ repairOpened file rows columns b
 unfolding repairOpened
-repair-bodies file rows columns out marks p q r lines rowTable columnTable s ep el eq er eu ec es =
+repair-bodies file rows columns b p q r lines rowTable columnTable s ep el eq er eu ec es =
     rw (← ep, ← el, ← eq, ← er, ← eu, ← ec) es
 
-module _ (limit : ℕ) (file out marks : List ℕ) (o : Opened) (is : o ≡ opened limit file) where
+module _ (limit : ℕ) (file : List ℕ) (b : Buffers) (o : Opened) (is : o ≡ opened limit file) where
   pub check-refused : (o .answer ≡ 0 → ⊥) → (k : Checked) → k ≡ refusedWith (o .answer)
-      → record { checked = k; lines = out; marks = marks } ≡ checkStore limit file out marks
+      → record { checked = k; buffers = b } ≡ checkStore limit file b
   unfolding checkStore
   check-refused d k e = rw (← is, ne-eqb (o .answer) 0 d, e)
 
-  module _ (opens : o .answer ≡ 0) (s : StoreRepaired) (es : s ≡ repairOpened file (o .rows) (o .columns) out marks) where
+  module _ (opens : o .answer ≡ 0) (s : StoreRepaired) (es : s ≡ repairOpened file (o .rows) (o .columns) b) where
     pub check-turned-back : handsOver (s .answer) ≡ false → (k : Checked) → k ≡ refusedWith (s .answer)
-        → record { checked = k; lines = s .lines; marks = s .marks } ≡ checkStore limit file out marks
+        → record { checked = k; buffers = leftBy s } ≡ checkStore limit file b
     unfolding checkStore counted
     check-turned-back h k e = rw (← is, eq-eqb (o .answer) 0 opens, ← es, h, e)
 
     pub check-counted : handsOver (s .answer) ≡ true → (n : Counts) → n ≡ countsOf (s .marks)
         → record {
           checked = record { answer = s .answer; rows = o .rows; columns = o .columns; counts = n; passes = s .passes };
-          lines = s .lines;
-          marks = s .marks;
-        } ≡ checkStore limit file out marks
+          buffers = leftBy s;
+        } ≡ checkStore limit file b
     unfolding checkStore counted
     check-counted h n e = rw (← is, eq-eqb (o .answer) 0 opens, ← es, h, e)

@@ -13,9 +13,9 @@ use Rattle.scheme.specs.Repair.{repair, marksOf}
 use Rattle.scheme.specs.Marks.{LineMarks}
 use Rattle.scheme.specs.Demand3.{_∈_}
 use Rattle.scheme.proofs.Marking.{repair-marks}
-use Rattle.rectangle.specs.Store.{lineLayer, linesIn, groups}
+use Rattle.rectangle.specs.Store.{lineLayer, linesIn}
 use Rattle.rectangle.specs.Refusals.{repairRefusal, repairAnswers}
-use Rattle.rectangle.specs.Repair.{StoreRepaired, repaired, handsOver, handedOver, repairStore}
+use Rattle.rectangle.specs.Repair.{StoreRepaired, usedGroups, repairedBy, repaired, handsOver, handedOver, repairStore}
 use Rattle.rectangle.proofs.Buffer.{length-linesIn}
 use Rattle.rectangle.proofs.LineLayer.{kept}
 use Rattle.rectangle.proofs.Runs.{zero-or-not, answer-hands-over, refusal-hands-nothing, repair-runs, repair-refused, repair-answers}
@@ -23,7 +23,7 @@ use Rattle.rectangle.proofs.Tests.{every-at, not-among, either-way}
 use Rattle.storefile.specs.Opening.{rowsIn, columnsIn, openRefusal, opened}
 use Rattle.report.specs.Marks.{countsOf}
 use Rattle.report.specs.Report.{ReportWritten, reportBytes, writeReport}
-use Rattle.report.specs.Check.{StoreChecked, refusedWith, repairOpened, counted, checkStore}
+use Rattle.report.specs.Check.{Buffers, leftBy, StoreChecked, refusedWith, repairOpened, counted, checkStore}
 use Rattle.report.specs.Promises.{total, CheckCountsLines, CheckRefusalsWriteNothing, NineNotGiven}
 use Rattle.report.specs.declared.report.Checked.{Checked}
 use Rattle.storefile.proofs.Answers as Opening
@@ -39,105 +39,105 @@ opening-refuses n (inl z) d = absurd (d z)
 opening-refuses n (inr i) d = not-true _ (every-at (λ n. not (handsOver n)) (1 ∷ 2 ∷ 3 ∷ 4 ∷ []) refl n i)
 
 -- ---- repair hands over the marks of as many lines, or is refused and writes nothing
-data Repairing (k : ℕ) (out marks : List ℕ) (r : StoreRepaired) : Type 0 where
+data Repairing (k : ℕ) (b : Buffers) (r : StoreRepaired) : Type 0 where
   over : handsOver (r .answer) ≡ true → length (r .marks) ≡ k → ((n : ℕ) → n < length (r .marks) → getD (r .marks) n 0 ≤ 4)
-      → Repairing k out marks r
-  none : handsOver (r .answer) ≡ false → r .lines ≡ out → r .marks ≡ marks → Repairing k out marks r
+      → Repairing k b r
+  none : handsOver (r .answer) ≡ false → leftBy r ≡ b → Repairing k b r
 
-module _ (rows columns : ℕ) (lines rowTable columnTable out marks : List ℕ) where
-  handed : Repairing (rows * columns) out marks (handedOver (groups rows columns rowTable columnTable) (repaired rows columns lines rowTable columnTable))
-  unfolding handedOver repaired
+module _ (rows columns : ℕ) (lines rowTable columnTable : List ℕ) (b : Buffers) where
+  abbrev refusal : ℕ
+  refusal = repairRefusal rows columns lines rowTable columnTable (b .lines) (b .marks) (b .rowTable) (b .columnTable)
+
+  abbrev given : StoreRepaired
+  given = repairStore rows columns lines rowTable columnTable (b .lines) (b .marks) (b .rowTable) (b .columnTable)
+
+  handed : Repairing (rows * columns) b
+      (handedOver lineLayer rows columns rowTable columnTable (repaired rows columns lines rowTable columnTable))
+  unfolding handedOver repairedBy
   handed =
-      let gs = groups rows columns rowTable columnTable in
+      let gs = usedGroups lineLayer rows columns rowTable columnTable in
       let found = linesIn (rows * columns) lines in
       let given : LineMarks (length found) (marksOf (repair (readLine lineLayer) gs found .cells)) = repair-marks lineLayer kept gs found in
       over (answer-hands-over gs (repair (readLine lineLayer) gs found .cells))
       (given .each ∙ length-linesIn (rows * columns) lines)
       (given .high)
 
-  repairing : Repairing (rows * columns) out marks (repairStore rows columns lines rowTable columnTable out marks)
-  repairing = go (zero-or-not (repairRefusal rows columns lines rowTable columnTable out marks))
+  repairing : Repairing (rows * columns) b given
+  repairing = go (zero-or-not refusal)
     where
-      go : (repairRefusal rows columns lines rowTable columnTable out marks ≡ 0)
-          ⊎ (repairRefusal rows columns lines rowTable columnTable out marks ≡ 0 → ⊥)
-          → Repairing (rows * columns) out marks (repairStore rows columns lines rowTable columnTable out marks)
+      go : (refusal ≡ 0) ⊎ (refusal ≡ 0 → ⊥) → Repairing (rows * columns) b given
       go (inl z) =
-          subst (Repairing (rows * columns) out marks)
-          (sym (repair-runs rows columns lines rowTable columnTable out marks 0 z refl)) handed
+          subst (Repairing (rows * columns) b) (sym (repair-runs rows columns lines rowTable columnTable lineLayer _ _ _ _ 0 z refl)) handed
       go (inr d) =
-          subst (Repairing (rows * columns) out marks)
-          (sym (repair-refused rows columns lines rowTable columnTable out marks _ refl d)) (none (refusal-hands-nothing rows columns lines rowTable columnTable out marks d) refl refl)
+          subst (Repairing (rows * columns) b)
+          (sym (repair-refused rows columns lines rowTable columnTable lineLayer _ _ _ _ _ refl d))
+          (none (refusal-hands-nothing rows columns lines rowTable columnTable _ _ _ _ d) refl)
 
 -- ---- a check is turned back, or counts every line
-data Checks (out marks : List ℕ) (s : StoreChecked) : Type 0 where
-  over : handsOver (s .checked .answer) ≡ true → total (s .checked .counts) ≡ s .checked .rows * s .checked .columns → Checks out marks s
-  none : handsOver (s .checked .answer) ≡ false → s .checked ≡ refusedWith (s .checked .answer) → s .lines ≡ out → s .marks ≡ marks
-      → Checks out marks s
+data Checks (b : Buffers) (s : StoreChecked) : Type 0 where
+  over : handsOver (s .checked .answer) ≡ true → total (s .checked .counts) ≡ s .checked .rows * s .checked .columns → Checks b s
+  none : handsOver (s .checked .answer) ≡ false → s .checked ≡ refusedWith (s .checked .answer) → s .buffers ≡ b → Checks b s
 
-module _ (limit : ℕ) (file out marks : List ℕ) where
-  turned : (a : ℕ) (lines′ marks′ : List ℕ) → handsOver a ≡ false → lines′ ≡ out → marks′ ≡ marks
-      → Checks out marks (record { checked = refusedWith a; lines = lines′; marks = marks′ })
+module _ (limit : ℕ) (file : List ℕ) (b : Buffers) where
+  turned : (a : ℕ) (after : Buffers) → handsOver a ≡ false → after ≡ b → Checks b (record { checked = refusedWith a; buffers = after })
   unfolding refusedWith
-  turned a lines′ marks′ h e f = none h refl e f
+  turned a after h e = none h refl e
 
   module _ (rows columns : ℕ) (is : record { answer = 0; rows = rows; columns = columns } ≡ opened limit file) where
     abbrev r : StoreRepaired
-    r = repairOpened file rows columns out marks
+    r = repairOpened file rows columns b
 
-    repairs : Repairing (rows * columns) out marks r
+    repairs : Repairing (rows * columns) b r
     unfolding repairOpened
-    repairs = repairing rows columns _ _ _ out marks
+    repairs = repairing rows columns _ _ _ b
 
-    checks-opened : Repairing (rows * columns) out marks r → Checks out marks (checkStore limit file out marks)
+    checks-opened : Repairing (rows * columns) b r → Checks b (checkStore limit file b)
     checks-opened (over h e f) =
-        subst (Checks out marks) (check-counted limit file out marks _ is refl r refl h (countsOf (r .marks)) refl)
-        (over h (counts-add-up (r .marks) f ∙ e))
-    checks-opened (none h e f) =
-        subst (Checks out marks) (check-turned-back limit file out marks _ is refl r refl h (refusedWith (r .answer)) refl)
-        (turned (r .answer) (r .lines) (r .marks) h e f)
+        subst (Checks b) (check-counted limit file b _ is refl r refl h (countsOf (r .marks)) refl) (over h (counts-add-up (r .marks) f ∙ e))
+    checks-opened (none h e) =
+        subst (Checks b) (check-turned-back limit file b _ is refl r refl h (refusedWith (r .answer)) refl) (turned (r .answer) (leftBy r) h e)
 
-  checks : Checks out marks (checkStore limit file out marks)
+  checks : Checks b (checkStore limit file b)
   checks = go (outcome limit file (opened limit file) refl)
     where
-      go : Outcome limit file (opened limit file) → Checks out marks (checkStore limit file out marks)
+      go : Outcome limit file (opened limit file) → Checks b (checkStore limit file b)
       go (accepted e h) = checks-opened (rowsIn file) (columnsIn file) (sym e) (repairs (rowsIn file) (columnsIn file) (sym e))
       go (refused d e) =
-          subst (Checks out marks)
-          (check-refused limit file out marks _ (sym e) d (refusedWith (openRefusal limit file)) refl)
-          (turned (openRefusal limit file) out marks (opening-refuses _ (opening-answers limit file) d) refl refl)
+          subst (Checks b)
+          (check-refused limit file b _ (sym e) d (refusedWith (openRefusal limit file)) refl)
+          (turned (openRefusal limit file) b (opening-refuses _ (opening-answers limit file) d) refl)
 
 pub check-counts-lines : CheckCountsLines
-check-counts-lines limit file out marks h = go (checks limit file out marks)
+check-counts-lines limit file b h = go (checks limit file b)
   where
-    go : Checks out marks (checkStore limit file out marks)
-        → total (checkStore limit file out marks .checked .counts)
-        ≡ checkStore limit file out marks .checked .rows * checkStore limit file out marks .checked .columns
+    go : Checks b (checkStore limit file b)
+        → total (checkStore limit file b .checked .counts)
+        ≡ checkStore limit file b .checked .rows * checkStore limit file b .checked .columns
     go (over i e) = e
-    go (none i e f g) = absurd (true≢false (sym h ∙ i))
+    go (none i e f) = absurd (true≢false (sym h ∙ i))
 
 pub check-refusals-write-nothing : CheckRefusalsWriteNothing
-check-refusals-write-nothing limit file out marks h = go (checks limit file out marks)
+check-refusals-write-nothing limit file b h = go (checks limit file b)
   where
-    go : Checks out marks (checkStore limit file out marks)
-        → (checkStore limit file out marks .checked ≡ refusedWith (checkStore limit file out marks .checked .answer))
-        × (checkStore limit file out marks .lines ≡ out) × (checkStore limit file out marks .marks ≡ marks)
+    go : Checks b (checkStore limit file b)
+        → (checkStore limit file b .checked ≡ refusedWith (checkStore limit file b .checked .answer)) × (checkStore limit file b .buffers ≡ b)
     go (over i e) = absurd (true≢false (sym i ∙ h))
-    go (none i e f g) = (e, f, g)
+    go (none i e f) = (e, f)
 
 -- ---- request Q-2
 pub nine-not-given : NineNotGiven
 unfolding checkStore counted refusedWith repairOpened writeReport
 nine-not-given =
     record {
-      check = λ limit file out marks.
+      check = λ limit file b.
           either-way (λ (s : StoreChecked). s .checked .answer ≡ 9 → ⊥) (eqb (opened limit file .answer) 0) _ _
-          (either-way (λ (c : Checked). c .answer ≡ 9 → ⊥) (handsOver _) _ _ (repair-not _ _ _ _ _ out marks) (repair-not _ _ _ _ _ out marks))
+          (either-way (λ (c : Checked). c .answer ≡ 9 → ⊥) (handsOver _) _ _ (repair-not _ _ _ _ _ b) (repair-not _ _ _ _ _ b))
           (Opening.nine-not-given .opening limit file);
       report = λ c out. either-way (λ (w : ReportWritten). w .answer ≡ 9 → ⊥) (eqb (length out) reportBytes) _ _
           (λ (e : _≡_ {A = ℕ} 0 9). omega arith) (λ (e : _≡_ {A = ℕ} 7 9). omega arith);
     }
   where
-    repair-not : (rows columns : ℕ) (lines rowTable columnTable out marks : List ℕ)
-        → repairStore rows columns lines rowTable columnTable out marks .answer ≡ 9 → ⊥
-    repair-not rows columns lines rowTable columnTable out marks =
-        not-among 9 repairAnswers refl (repair-answers rows columns lines rowTable columnTable out marks)
+    repair-not : (rows columns : ℕ) (lines rowTable columnTable : List ℕ) (b : Buffers)
+        → repairStore rows columns lines rowTable columnTable (b .lines) (b .marks) (b .rowTable) (b .columnTable) .answer ≡ 9 → ⊥
+    repair-not rows columns lines rowTable columnTable b =
+        not-among 9 repairAnswers refl (repair-answers rows columns lines rowTable columnTable _ _ _ _)

@@ -11,14 +11,14 @@ use Rattle.storefile.specs.Opening.{openRefusal, opened, bytesNeeded}
 use Rattle.storefile.specs.declared.opening.Opened.{Opened}
 use Rattle.storefile.proofs.Openings.{opened-refused}
 use Rattle.storefile.proofs.Needed.{Refused, both-refused}
-use Rattle.report.specs.Check.{refusedWith, checkStore}
+use Rattle.report.specs.Check.{Buffers, refusedWith, checkStore}
 use Rattle.report.specs.Promises.{MoreChangesNothing}
 use Rattle.report.proofs.Checking.{check-refused}
 
-check-of-refused : (limit : ℕ) (file out marks : List ℕ) (n : ℕ) → (n ≡ 0 → ⊥) → openRefusal limit file ≡ n
-    → checkStore limit file out marks ≡ record { checked = refusedWith n; lines = out; marks = marks }
-check-of-refused limit file out marks n d e =
-    sym (check-refused limit file out marks (refused n) is d (refusedWith n) refl)
+check-of-refused : (limit : ℕ) (file : List ℕ) (b : Buffers) (n : ℕ) → (n ≡ 0 → ⊥) → openRefusal limit file ≡ n
+    → checkStore limit file b ≡ record { checked = refusedWith n; buffers = b }
+check-of-refused limit file b n d e =
+    sym (check-refused limit file b (refused n) is d (refusedWith n) refl)
   where
     refused : ℕ → Opened
     refused n = record { answer = n; rows = 0; columns = 0 }
@@ -28,15 +28,15 @@ check-of-refused limit file out marks n d e =
 
 pub more-changes-nothing : MoreChangesNothing
 unfolding headerBytes
-more-changes-nothing limit file out marks = go (decLe (length file) (bytesNeeded limit (take 28 file)))
+more-changes-nothing limit file b = go (decLe (length file) (bytesNeeded limit (take 28 file)))
   where
     go : Dec (length file ≤ bytesNeeded limit (take 28 file))
-        → checkStore limit (take (bytesNeeded limit (take 28 file)) file) out marks ≡ checkStore limit file out marks
-    go (yes l) = ap (λ (f : List ℕ). checkStore limit f out marks) (take-all (bytesNeeded limit (take 28 file)) file l)
+        → checkStore limit (take (bytesNeeded limit (take 28 file)) file) b ≡ checkStore limit file b
+    go (yes l) = ap (λ (f : List ℕ). checkStore limit f b) (take-all (bytesNeeded limit (take 28 file)) file l)
     go (no l) = refused (both-refused limit file (omega arith))
       where
         refused : Refused limit (take (bytesNeeded limit (take 28 file)) file) file
-            → checkStore limit (take (bytesNeeded limit (take 28 file)) file) out marks ≡ checkStore limit file out marks
-        refused b =
-            check-of-refused limit _ out marks (b .answer) (b .some) (b .first)
-            ∙ sym (check-of-refused limit file out marks (b .answer) (b .some) (b .second))
+            → checkStore limit (take (bytesNeeded limit (take 28 file)) file) b ≡ checkStore limit file b
+        refused r =
+            check-of-refused limit _ b (r .answer) (r .some) (r .first)
+            ∙ sym (check-of-refused limit file b (r .answer) (r .some) (r .second))

@@ -1,4 +1,4 @@
--- Document 01, "Store file": a check of a whole store, its lines repaired into a lent buffer and its marks counted.
+-- Document 01, "Store file": a check of a whole store, repaired into lent buffers and its marks counted.
 use mathlib.Core.Bool.{cond}
 use mathlib.Core.List.{List}
 use Prim.Native.Nat.{ℕ}
@@ -10,26 +10,40 @@ use Rattle.report.specs.Marks.{countsOf, noCounts}
 use Rattle.storefile.specs.declared.opening.Opened.{Opened}
 use Rattle.report.specs.declared.report.Checked.{Checked}
 
--- what a check answers, and the line and mark buffers as it leaves them
-pub record StoreChecked : Type 0 where
-  pub checked : Checked
+-- the four buffers that repair writes
+pub record Buffers : Type 0 where
   pub lines : List ℕ
   pub marks : List ℕ
+  pub rowTable : List ℕ
+  pub columnTable : List ℕ
+
+-- these four
+abbrev pub lent : List ℕ → List ℕ → List ℕ → List ℕ → Buffers
+lent lines marks rowTable columnTable = record { lines = lines; marks = marks; rowTable = rowTable; columnTable = columnTable }
+
+-- as repair leaves them
+abbrev pub leftBy : StoreRepaired → Buffers
+leftBy r = lent (r .lines) (r .marks) (r .rowTable) (r .columnTable)
+
+-- what a check answers, and the four buffers as it leaves them
+pub record StoreChecked : Type 0 where
+  pub checked : Checked
+  pub buffers : Buffers
 
 -- a refusal: every value is 0
 unfoldable pub refusedWith : ℕ → Checked
 refusedWith answer = record { answer = answer; rows = 0; columns = 0; counts = noCounts; passes = 0 }
 
--- repair of an opened file's bodies, out and marks being the buffers to be written
-unfoldable pub repairOpened : List ℕ → ℕ → ℕ → List ℕ → List ℕ → StoreRepaired
-repairOpened file rows columns out marks =
+-- repair of an opened file's bodies into some buffers
+unfoldable pub repairOpened : List ℕ → ℕ → ℕ → Buffers → StoreRepaired
+repairOpened file rows columns b =
     repairStore rows columns
     (bytesIn file (linesPart rows columns))
     (bytesIn file (rowTablePart rows columns))
     (bytesIn file (columnTablePart rows columns))
-    out marks
+    (b .lines) (b .marks) (b .rowTable) (b .columnTable)
 
--- where repair hands lines and marks over, the marks are counted; its refusals write nothing
+-- where repair hands a store over, its marks are counted; its refusals write nothing
 unfoldable pub counted : Opened → StoreRepaired → Checked
 counted o r =
     cond (handsOver (r .answer))
@@ -37,10 +51,10 @@ counted o r =
     (refusedWith (r .answer))
 
 -- the entry point: opening with a limit on rows and columns, then repair
-unfoldable pub checkStore : ℕ → List ℕ → List ℕ → List ℕ → StoreChecked
-checkStore limit file out marks =
+unfoldable pub checkStore : ℕ → List ℕ → Buffers → StoreChecked
+checkStore limit file b =
     let o = opened limit file in
-    let r = repairOpened file (o .rows) (o .columns) out marks in
+    let r = repairOpened file (o .rows) (o .columns) b in
     cond (eqb (o .answer) 0)
-    (record { checked = counted o r; lines = r .lines; marks = r .marks })
-    (record { checked = refusedWith (o .answer); lines = out; marks = marks })
+    (record { checked = counted o r; buffers = leftBy r })
+    (record { checked = refusedWith (o .answer); buffers = b })

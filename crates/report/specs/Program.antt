@@ -5,18 +5,24 @@ use lib.ListN.{replicate}
 use Rattle.linecode.specs.Places.{lineBytes}
 use Rattle.storefile.specs.Opening.{opened}
 use Rattle.report.specs.Report.{ReportWritten, writeReport}
-use Rattle.report.specs.Check.{checkStore}
+use Rattle.report.specs.Check.{Buffers, checkStore}
 
 -- 3: the most rows and columns of a store that the program takes
 unfoldable pub programSide : ℕ
 programSide = 16
 
--- the number of lines of a store that the program opens, 0 of another file
-unfoldable pub programLines : List ℕ → ℕ
-programLines file = opened programSide file .rows * opened programSide file .columns
+-- buffers of zeros that just hold a store of so many rows and columns
+unfoldable pub zeroBuffers : ℕ → ℕ → Buffers
+zeroBuffers rows columns =
+    record {
+      lines = replicate (rows * columns * lineBytes) 0;
+      marks = replicate (rows * columns) 0;
+      rowTable = replicate (rows * lineBytes) 0;
+      columnTable = replicate (columns * lineBytes) 0;
+    }
 
--- the report on a file, in the first bytes of a text buffer; the store is repaired in buffers of zeros that just hold it
+-- the report on a file, in the first bytes of a text buffer; the store is repaired in such buffers, empty for a file that is not opened
 unfoldable pub programReport : List ℕ → List ℕ → ReportWritten
 programReport file text =
-    let n = programLines file in
-    writeReport (checkStore programSide file (replicate (n * lineBytes) 0) (replicate n 0) .checked) text
+    let o = opened programSide file in
+    writeReport (checkStore programSide file (zeroBuffers (o .rows) (o .columns)) .checked) text

@@ -9,15 +9,15 @@ use Rattle.storefile.specs.Header.{headerBytes}
 use Rattle.storefile.specs.Opening.{bytesNeeded}
 use Rattle.report.specs.Marks.{countsOf}
 use Rattle.report.specs.Report.{decimal, writeReport}
-use Rattle.report.specs.Check.{refusedWith, checkStore}
+use Rattle.report.specs.Check.{Buffers, refusedWith, checkStore}
 use Rattle.report.specs.declared.marks.Counts.{Counts}
 use Rattle.report.specs.declared.report.Checked.{Checked}
 
 -- ---- a reader that stops after the bytes it needs gives the same answer: those that follow change nothing
 abbrev pub MoreChangesNothing : Type 0
 MoreChangesNothing =
-    (limit : ℕ) (file out marks : List ℕ)
-    → checkStore limit (take (bytesNeeded limit (take headerBytes file)) file) out marks ≡ checkStore limit file out marks
+    (limit : ℕ) (file : List ℕ) (b : Buffers)
+    → checkStore limit (take (bytesNeeded limit (take headerBytes file)) file) b ≡ checkStore limit file b
 
 -- ---- "the counts are defined from the marks and add up to the lines"
 abbrev pub total : Counts → ℕ
@@ -26,25 +26,24 @@ total c = c .clean + c .alone + c .trial + c .rebuilt + c .faulty
 abbrev pub CountsAddUp : Type 0
 CountsAddUp = (marks : List ℕ) → ((n : ℕ) → n < length marks → getD marks n 0 ≤ 4) → total (countsOf marks) ≡ length marks
 
--- of every check that hands lines and marks over
+-- of every check that hands a store over
 abbrev pub CheckCountsLines : Type 0
 CheckCountsLines =
-    (limit : ℕ) (file out marks : List ℕ)
-    → let checked = checkStore limit file out marks .checked in
+    (limit : ℕ) (file : List ℕ) (b : Buffers)
+    → let checked = checkStore limit file b .checked in
     handsOver (checked .answer) ≡ true → total (checked .counts) ≡ checked .rows * checked .columns
 
 -- ---- "Passes are 0 for answers 1 to 10, which write nothing; a value that a call would return is 0", and so for every number added
--- later: any answer but 0, 11 and 12
+-- later: any answer but 0, 11 and 12. None of the four buffers is written
 abbrev pub CheckRefusalsWriteNothing : Type 0
 CheckRefusalsWriteNothing =
-    (limit : ℕ) (file out marks : List ℕ)
-    → let r = checkStore limit file out marks in
-    handsOver (r .checked .answer) ≡ false
-    → (r .checked ≡ refusedWith (r .checked .answer)) × (r .lines ≡ out) × (r .marks ≡ marks)
+    (limit : ℕ) (file : List ℕ) (b : Buffers)
+    → let r = checkStore limit file b in
+    handsOver (r .checked .answer) ≡ false → (r .checked ≡ refusedWith (r .checked .answer)) × (r .buffers ≡ b)
 
 -- ---- request Q-2: "9 is no longer given.", neither by a check nor by writing the report
 pub record NineNotGiven : Type 0 where
-  pub check : (limit : ℕ) (file out marks : List ℕ) → checkStore limit file out marks .checked .answer ≡ 9 → ⊥
+  pub check : (limit : ℕ) (file : List ℕ) (b : Buffers) → checkStore limit file b .checked .answer ≡ 9 → ⊥
   pub report : (c : Checked) (out : List ℕ) → writeReport c out .answer ≡ 9 → ⊥
 
 -- ---- "decimal without leading zeros": digits from 48 to 57, which read back give the number; only 0 begins with 48, and it is short

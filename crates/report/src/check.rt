@@ -2,7 +2,7 @@
 ghost use mathlib.Core.Path.{_≡_};
 ghost use Prim.Native.Nat.{_≤_};
 ghost use Rattle.rectangle.specs.Repair.{StoreRepaired};
-ghost use Rattle.report.specs.Check.{StoreChecked, refusedWith, repairOpened, checkStore};
+ghost use Rattle.report.specs.Check.{lent, StoreChecked, refusedWith, repairOpened, checkStore};
 use crate::marks;
 use crate::marks::Counts;
 use crate::report;
@@ -37,29 +37,60 @@ fn repair_opened(
     columns: usize,
     out: &mut [u8],
     marks: &mut [u8],
+    row_out: &mut [u8],
+    column_out: &mut [u8],
 ) -> Repaired
     requires { ⌜ (rows ≤ 512) × (columns ≤ 512) ⌝ }
     ensures { λ r. ⌜ _≡_ {A = StoreRepaired}
-        (record { answer = r .answer; passes = r .passes; number = r .number; lines = now (out .exit); marks = now (marks .exit) })
-        (repairOpened (now (file .entry)) rows columns (now (out .entry)) (now (marks .entry))) ⌝ }
+        (record {
+          answer = r .answer;
+          passes = r .passes;
+          lines = now (out .exit);
+          marks = now (marks .exit);
+          rowTable = now («row_out» .exit);
+          columnTable = now («column_out» .exit);
+        })
+        (repairOpened (now (file .entry)) rows columns
+        (lent (now (out .entry)) (now (marks .entry)) (now («row_out» .entry)) (now («column_out» .entry)))) ⌝ }
 {
     let lines = opening::part_of(file, header::lines_part(rows, columns));
     let row_table = opening::part_of(file, header::row_table_part(rows, columns));
     let column_table = opening::part_of(file, header::column_table_part(rows, columns));
-    repair::repair(rows, columns, lines, row_table, column_table, out, marks)
+    repair::repair(
+        rows,
+        columns,
+        lines,
+        row_table,
+        column_table,
+        out,
+        marks,
+        row_out,
+        column_out,
+    )
 }
 
 // A check of a store whose rows and columns are at most a limit.
-pub fn check_within(limit: usize, file: &[u8], out: &mut [u8], marks: &mut [u8]) -> Checked
+pub fn check_within(
+    limit: usize,
+    file: &[u8],
+    out: &mut [u8],
+    marks: &mut [u8],
+    row_out: &mut [u8],
+    column_out: &mut [u8],
+) -> Checked
     ensures { λ r. ⌜ _≡_ {A = StoreChecked}
-        (record { checked = r; lines = now (out .exit); marks = now (marks .exit) })
-        (checkStore limit (now (file .entry)) (now (out .entry)) (now (marks .entry))) ⌝ }
+        (record {
+          checked = r;
+          buffers = lent (now (out .exit)) (now (marks .exit)) (now («row_out» .exit)) (now («column_out» .exit));
+        })
+        (checkStore limit (now (file .entry))
+        (lent (now (out .entry)) (now (marks .entry)) (now («row_out» .entry)) (now («column_out» .entry)))) ⌝ }
 {
     let o = opening::open_within(limit, file);
     if o.answer != 0 {
         return refused(o.answer);
     }
-    let r = repair_opened(file, o.rows, o.columns, out, marks);
+    let r = repair_opened(file, o.rows, o.columns, out, marks, row_out, column_out);
     if !report::hands_over(r.answer) {
         return refused(r.answer);
     }
@@ -74,10 +105,20 @@ pub fn check_within(limit: usize, file: &[u8], out: &mut [u8], marks: &mut [u8])
 }
 
 // A check of a store.
-pub fn check(file: &[u8], out: &mut [u8], marks: &mut [u8]) -> Checked
+pub fn check(
+    file: &[u8],
+    out: &mut [u8],
+    marks: &mut [u8],
+    row_out: &mut [u8],
+    column_out: &mut [u8],
+) -> Checked
     ensures { λ r. ⌜ _≡_ {A = StoreChecked}
-        (record { checked = r; lines = now (out .exit); marks = now (marks .exit) })
-        (checkStore 512 (now (file .entry)) (now (out .entry)) (now (marks .entry))) ⌝ }
+        (record {
+          checked = r;
+          buffers = lent (now (out .exit)) (now (marks .exit)) (now («row_out» .exit)) (now («column_out» .exit));
+        })
+        (checkStore 512 (now (file .entry))
+        (lent (now (out .entry)) (now (marks .entry)) (now («row_out» .entry)) (now («column_out» .entry)))) ⌝ }
 {
-    check_within(512, file, out, marks)
+    check_within(512, file, out, marks, row_out, column_out)
 }

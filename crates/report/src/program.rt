@@ -18,8 +18,19 @@ pub fn report_on(file: &[u8], text: &mut [u8]) -> Reported
     let o = opening::open_within(16, file);
     let lines = o.rows * o.columns;
     let bytes = lines * 70;
+    let row_bytes = o.rows * 70;
+    let column_bytes = o.columns * 70;
     let mut out = [0u8; 17920];
     let mut marks = [0u8; 256];
-    let checked = check::check_within(16, file, &mut out[..bytes], &mut marks[..lines]);
+    let mut row_out = [0u8; 1120];
+    let mut column_out = [0u8; 1120];
+    let checked = check::check_within(
+        16,
+        file,
+        &mut out[..bytes],
+        &mut marks[..lines],
+        &mut row_out[..row_bytes],
+        &mut column_out[..column_bytes],
+    );
     report::report(checked, text)
 }

@@ -23,7 +23,7 @@ pub struct Reported {
     pub size: usize,
 }
 
-// Whether repair hands lines and marks over with an answer.
+// Whether repair hands a store over with an answer.
 pub fn hands_over(answer: u32) -> bool
     ensures { λ r. ⌜ r ≡ handsOver answer ⌝ }
 {

@@ -31,14 +31,20 @@ same-length c = search needs
 same-length-2 : tie.Need-same-length-2
 same-length-2 c = search needs
 
+same-length-3 : tie.Need-same-length-3
+same-length-3 c = search needs
+
+same-length-4 : tie.Need-same-length-4
+same-length-4 c = search needs
+
 returns : tie.Need-returns
 returns c =
-    let start = c .before .before .before .before .before .before .before .before .before .before .before .before .before .before .before .before .args in
-    repair-bodies (start .file .now) (start .rows) (start .columns) (start .out .now) (start .marks .now) _ _ _ _ _ _ _
-    (c .before .before .before .before .before .before .before .before .before .before .before .before .lines-part .ensures) (c .before .before .before .before .before .before .before .before .before .before .before .part-of .ensures)
-    (c .before .before .before .before .before .before .before .before .before .before .row-table-part .ensures) (c .before .before .before .before .before .before .before .before .before .part-of2 .ensures)
-    (c .before .before .before .before .before .before .before .before .column-table-part .ensures) (c .before .before .before .before .before .before .before .part-of3 .ensures)
-    (c .before .before .before .before .repair .ensures)
+    let start = c .before .before .before .before .before .before .before .before .before .before .before .before .before .before .before .before .before .before .before .before .before .before .before .before .args in
+    repair-bodies (start .file .now) (start .rows) (start .columns) _ _ _ _ _ _ _ _
+    (c .before .before .before .before .before .before .before .before .before .before .before .before .before .before .before .before .before .before .lines-part .ensures) (c .before .before .before .before .before .before .before .before .before .before .before .before .before .before .before .before .before .part-of .ensures)
+    (c .before .before .before .before .before .before .before .before .before .before .before .before .before .before .before .before .row-table-part .ensures) (c .before .before .before .before .before .before .before .before .before .before .before .before .before .before .before .part-of2 .ensures)
+    (c .before .before .before .before .before .before .before .before .before .before .before .before .before .before .column-table-part .ensures) (c .before .before .before .before .before .before .before .before .before .before .before .before .before .part-of3 .ensures)
+    (c .before .before .before .before .before .before .before .before .repair .ensures)
 
 pub repair-opened-spec : {M : Type 1} → statement M
 repair-opened-spec =
@@ -53,4 +59,6 @@ repair-opened-spec =
     repair-requires
     same-length
     same-length-2
+    same-length-3
+    same-length-4
     returns)
