@@ -10,14 +10,16 @@ use Rattle.linecode.specs.Places.{dataPlaces, protectedPlaces, hammingPlaces, l
 use Rattle.linecode.specs.Code.{protected, dataOf, accepted, hammingColumns, positions, hamming, withCrc, withHamming, codeword, isCorrect, columns, syndrome, naming, answerTo}
 use Rattle.linecode.specs.Reading.{readAlone}
 use Rattle.scheme.specs.Repair.{passesFrom, repair, answer}
-use Rattle.rectangle.specs.Store.{readUnder, isCorrectUnder, bytesAt, placesAt, linesIn, row, column, groups}
-use Rattle.rectangle.specs.Refusals.{sideFits, sidesFit, holds, tablesFit, parityCorrect, repairRefusal}
-use Rattle.rectangle.specs.Repair.{repaired, handsOver, handedOver, repairStore}
+use Rattle.scheme.specs.Parity.{unusable, asRead, parityAfter}
+use Rattle.rectangle.specs.Store.{readUnder, bytesAt, placesAt, linesIn, row, column, groups}
+use Rattle.rectangle.specs.Refusals.{sideFits, sidesFit, holds, tablesFit, repairRefusal}
+use Rattle.rectangle.specs.Repair.{usedGroups, repairedBy, tableAfter, handsOver, handedOver, repairBy}
 use Rattle.storefile.specs.Bytes.{numberAt}
 use Rattle.storefile.specs.Header.{headerBytes, linesPart, rowTablePart, columnTablePart, fileLength, entry, header, bytesIn}
 use Rattle.storefile.specs.Opening.{rowsIn, columnsIn, sidesWithin, entryIs, entriesFit, contentsFit, openRefusal, opened}
 use Rattle.report.specs.Marks.{countOf, countsOf, noCounts}
 use Rattle.report.specs.Report.{decimal, spaced, line, storeLine, countLines, linesAbove, reportText}
+use Rattle.report.specs.Program.{zeroBuffers}
 use Rattle.report.specs.Check.{refusedWith, repairOpened, counted, checkStore}
 use Rattle.samples.specs.Samples.{sameBytes}
 use Rattle.samples.specs.Report.{ZeroStoreReport}
@@ -33,5 +35,5 @@ same-bytes (a ∷ x) (b ∷ y) t = go (eqb a b) refl t (same-bytes x y)
     go false e t rest = absurd t
 
 pub zero-store-report : ZeroStoreReport
-unfolding generator generatorPolynomial dataPlaces protectedPlaces hammingPlaces linePlaces lineBytes places lineOf protected dataOf accepted hammingColumns positions hamming withCrc withHamming codeword isCorrect columns syndrome naming answerTo readAlone passesFrom repair answer readUnder isCorrectUnder bytesAt placesAt linesIn row column groups sideFits sidesFit holds tablesFit parityCorrect repairRefusal repaired handedOver repairStore numberAt headerBytes linesPart rowTablePart columnTablePart fileLength entry header bytesIn rowsIn columnsIn sidesWithin entryIs entriesFit contentsFit openRefusal opened countOf countsOf noCounts decimal spaced line storeLine countLines linesAbove handsOver reportText refusedWith repairOpened counted checkStore
+unfolding generator generatorPolynomial dataPlaces protectedPlaces hammingPlaces linePlaces lineBytes places lineOf protected dataOf accepted hammingColumns positions hamming withCrc withHamming codeword isCorrect columns syndrome naming answerTo readAlone passesFrom repair answer unusable asRead parityAfter readUnder bytesAt placesAt linesIn row column groups sideFits sidesFit holds tablesFit repairRefusal usedGroups repairedBy tableAfter handedOver repairBy numberAt headerBytes linesPart rowTablePart columnTablePart fileLength entry header bytesIn rowsIn columnsIn sidesWithin entryIs entriesFit contentsFit openRefusal opened countOf countsOf noCounts decimal spaced line storeLine countLines linesAbove handsOver reportText refusedWith repairOpened counted checkStore zeroBuffers
 zero-store-report = same-bytes _ _ tt

@@ -6,6 +6,7 @@ use lib.ListN.{replicate}
 use Rattle.storefile.specs.Header.{header}
 use Rattle.report.specs.Report.{ascii, reportText}
 use Rattle.report.specs.Check.{checkStore}
+use Rattle.report.specs.Program.{zeroBuffers}
 
 -- ---- "For a 2 by 2 store of zero bytes after its header it prints exactly"
 abbrev pub zeroStore : List ℕ
@@ -23,4 +24,4 @@ sampleReport =
     ++ ascii "answer 0\n"
 
 abbrev pub ZeroStoreReport : Type 0
-ZeroStoreReport = reportText (checkStore 16 zeroStore (replicate 280 0) (replicate 4 0) .checked) ≡ sampleReport
+ZeroStoreReport = reportText (checkStore 16 zeroStore (zeroBuffers 2 2) .checked) ≡ sampleReport

@@ -1,5 +1,5 @@
 -- Document 01, "Sample damage": the starred samples in one table, each row a claim that the definitions decide; the mark of place 543 is
--- request Q-1's. And a table of other cases.
+-- request Q-1's. And tables of other cases.
 use mathlib.Core.Bool.{Bool, true, false, _&&_, _||_}
 use mathlib.Core.List.{List, [], _∷_, _++_}
 use Prim.Native.Nat.{ℕ, _*_}
@@ -13,6 +13,12 @@ use Rattle.linecode.specs.Before.{readBefore}
 use Rattle.linecode.specs.Entry.{written}
 use Rattle.rectangle.specs.Change.{LineChanged, changeLine}
 use Rattle.rectangle.specs.Repair.{StoreRepaired, repairStore}
+
+-- a store of two rows and two columns: its lines, and the parity lines of its rows and of its columns
+pub record Store : Type 0 where
+  pub lines : List (List ℕ)
+  pub rowTable : List (List ℕ)
+  pub columnTable : List (List ℕ)
 
 -- a row of the table
 pub data Sample : Type 0 where
@@ -28,9 +34,10 @@ pub data Sample : Type 0 where
   mends : ℕ → List (List ℕ) → List ℕ → ℕ → Sample
   -- these are handed over as found with these marks, passes and this answer
   leaves : ℕ → List (List ℕ) → List ℕ → ℕ → ℕ → Sample
-  -- four zero lines, two by two, with these parity lines of the rows and of the columns: repair writes nothing, and answers so with this
-  -- number; and a change of line n answers so with this number, and writes nothing unless it answers 0
-  turnsBack : List (List ℕ) → List (List ℕ) → ℕ → ℕ → Sample
+  -- this store comes back as that one with these marks, passes and this answer
+  repairs : Store → Store → List ℕ → ℕ → ℕ → Sample
+  -- four zero lines, two by two, with these parity lines of the rows and of the columns: a change of line n answers so with this number,
+  -- and writes nothing unless it answers 0
   changes : List (List ℕ) → List (List ℕ) → ℕ → ℕ → ℕ → Sample
 
 -- a line hurt at some places
@@ -69,20 +76,46 @@ samples =
 
 -- cases without a star: the marks of before, and one at which a plausible and false way of repair would give other marks. The mismatch is worked out once in a visit:
 -- of {1, 3, 4} line 0 takes place 1; worked out again it would be {0, 3, 4}, and line 1 would be mended by trial too. Then request Q-2's:
--- the first bad row, rows before columns, a change's own row and column, and no other
+-- a change's own row and column, and no other
 abbrev pub cases : List Sample
 cases =
     wasMarked (0 ∷ []) 1
     ∷ wasMarked (542 ∷ []) 1
     ∷ wasMarked (543 ∷ []) 0
     ∷ mends 3 (hurt (0 ∷ 1 ∷ []) ∷ hurt (0 ∷ 2 ∷ []) ∷ hurt (2 ∷ 3 ∷ 4 ∷ []) ∷ clean ∷ clean ∷ clean ∷ []) (2 ∷ 3 ∷ 3 ∷ 0 ∷ 0 ∷ 0 ∷ []) 1
-    ∷ turnsBack (clean ∷ hurt (0 ∷ []) ∷ []) (clean ∷ clean ∷ []) 13 1
-    ∷ turnsBack (hurt (0 ∷ []) ∷ hurt (0 ∷ []) ∷ []) (clean ∷ clean ∷ []) 13 0
-    ∷ turnsBack (clean ∷ hurt (0 ∷ []) ∷ []) (hurt (0 ∷ []) ∷ clean ∷ []) 13 1
-    ∷ turnsBack (clean ∷ clean ∷ []) (clean ∷ hurt (0 ∷ []) ∷ []) 14 1
     ∷ changes (clean ∷ hurt (0 ∷ []) ∷ []) (hurt (0 ∷ []) ∷ clean ∷ []) 2 13 1
     ∷ changes (hurt (0 ∷ []) ∷ clean ∷ []) (clean ∷ hurt (0 ∷ []) ∷ []) 3 14 1
     ∷ changes (hurt (0 ∷ []) ∷ clean ∷ []) (clean ∷ hurt (0 ∷ []) ∷ []) 2 0 0
+    ∷ []
+
+-- ---- request Q-3's cases
+-- a zero line hurt at two places: faulty, and as a parity line unusable
+abbrev pub twice : List ℕ
+twice = hurt (0 ∷ 1 ∷ [])
+
+-- a store whose first line and whose first row's and first column's parity lines are these, the others zero
+abbrev pub firsts : List ℕ → List ℕ → List ℕ → Store
+firsts line row column =
+    record {
+      lines = line ∷ clean ∷ clean ∷ clean ∷ [];
+      rowTable = row ∷ clean ∷ [];
+      columnTable = column ∷ clean ∷ [];
+    }
+
+-- a store given up: all its lines hurt alike, and its first row's parity line
+abbrev pub givenUp : Store
+givenUp = record { lines = twice ∷ twice ∷ twice ∷ twice ∷ []; rowTable = twice ∷ clean ∷ []; columnTable = clean ∷ clean ∷ [] }
+
+-- a parity line hurt at one place is handed over as read; an unusable one is made afresh, its row's line being rebuilt by its column; with
+-- 11 it stays as found; and neither is compared with the lines: with both made afresh the answer is 0, with one it is 12
+abbrev pub parityCases : List Sample
+parityCases =
+    repairs (firsts clean (hurt (0 ∷ [])) clean) (firsts clean clean clean) (0 ∷ 0 ∷ 0 ∷ 0 ∷ []) 0 0
+    ∷ repairs (firsts clean twice clean) (firsts clean clean clean) (0 ∷ 0 ∷ 0 ∷ 0 ∷ []) 0 0
+    ∷ repairs (firsts twice twice clean) (firsts clean clean clean) (3 ∷ 0 ∷ 0 ∷ 0 ∷ []) 1 0
+    ∷ repairs givenUp givenUp (4 ∷ 4 ∷ 4 ∷ 4 ∷ []) 1 11
+    ∷ repairs (firsts last twice twice) (firsts last last last) (0 ∷ 0 ∷ 0 ∷ 0 ∷ []) 0 0
+    ∷ repairs (firsts last twice clean) (firsts last last clean) (0 ∷ 0 ∷ 0 ∷ 0 ∷ []) 0 12
     ∷ []
 
 abbrev pub sameBytes : List ℕ → List ℕ → Bool
@@ -91,26 +124,35 @@ sameBytes [] (b ∷ y) = false
 sameBytes (a ∷ x) [] = false
 sameBytes (a ∷ x) (b ∷ y) = eqb a b && sameBytes x y
 
--- repair gives these lines, marks, passes, answer and number
-abbrev pub gives : StoreRepaired → List ℕ → List ℕ → ℕ → ℕ → ℕ → Bool
-gives r lines marks passes answer number =
-    sameBytes (r .lines) lines && sameBytes (r .marks) marks && eqb (r .passes) passes && eqb (r .answer) answer && eqb (r .number) number
-
 abbrev pub joined : List (List ℕ) → List ℕ
 joined [] = []
 joined (l ∷ ls) = l ++ joined ls
 
--- lines found in two rows of so many columns, with zero tables, repaired
-unfoldable pub repairedStore : ℕ → List (List ℕ) → StoreRepaired
-repairedStore columns found =
-    repairStore 2 columns (joined found) (replicate 140 0) (replicate (columns * 70) 0) (replicate (columns * 140) 0)
-    (replicate (columns * 2) 0)
+-- what repair of lines in two rows of so many columns, with these tables, gives in buffers of sevens
+unfoldable pub repairedWith : ℕ → List ℕ → List ℕ → List ℕ → StoreRepaired
+repairedWith columns lines rowTable columnTable =
+    repairStore 2 columns lines rowTable columnTable (replicate (columns * 140) 7) (replicate (columns * 2) 7)
+    (replicate 140 7) (replicate (columns * 70) 7)
 
--- zero lines, two by two, with these tables, repaired into buffers of sevens; and line n of them changed
-unfoldable pub repairedWith : List (List ℕ) → List (List ℕ) → StoreRepaired
-repairedWith rowTable columnTable =
-    repairStore 2 2 (replicate 280 0) (joined rowTable) (joined columnTable) (replicate 280 7) (replicate 4 7)
+-- it gives all this: answer, passes, and each byte of the four buffers
+abbrev pub gives : StoreRepaired → StoreRepaired → Bool
+gives r s =
+    eqb (r .answer) (s .answer)
+    && eqb (r .passes) (s .passes)
+    && sameBytes (r .lines) (s .lines)
+    && sameBytes (r .marks) (s .marks)
+    && sameBytes (r .rowTable) (s .rowTable)
+    && sameBytes (r .columnTable) (s .columnTable)
 
+-- with zero tables, which it hands over: these lines, marks, passes and this answer
+abbrev pub givesWithZeros : ℕ → List ℕ → List ℕ → List ℕ → ℕ → ℕ → Bool
+givesWithZeros columns found lines marks passes answer =
+    let rowTable : List ℕ = replicate 140 0 in
+    let columnTable : List ℕ = replicate (columns * 70) 0 in
+    gives (repairedWith columns found rowTable columnTable)
+    (record { answer = answer; passes = passes; lines = lines; marks = marks; rowTable = rowTable; columnTable = columnTable })
+
+-- line n of four zero lines, two by two, with these tables, changed
 unfoldable pub changedWith : List (List ℕ) → List (List ℕ) → ℕ → LineChanged
 changedWith rowTable columnTable n = changeLine 2 2 (replicate 280 0) (joined rowTable) (joined columnTable) n (replicate 64 1)
 
@@ -124,10 +166,18 @@ holds (refuses hurt number place) =
     let line = hurtAt hurt (zeros 553) in
     let read = readAlone line in
     eqb (syndrome line) number && eqb (placeOf (answerTo number)) place && same (read .word) line && eqb (read .mark) 4
-holds (mends columns found marks passes) = gives (repairedStore columns found) (replicate (columns * 140) 0) marks passes 0 0
-holds (leaves columns found marks passes answer) = gives (repairedStore columns found) (joined found) marks passes answer 0
-holds (turnsBack rowTable columnTable answer number) =
-    gives (repairedWith rowTable columnTable) (replicate 280 7) (replicate 4 7) 0 answer number
+holds (mends columns found marks passes) = givesWithZeros columns (joined found) (replicate (columns * 140) 0) marks passes 0
+holds (leaves columns found marks passes answer) = givesWithZeros columns (joined found) (joined found) marks passes answer
+holds (repairs found given marks passes answer) =
+    gives (repairedWith 2 (joined (found .lines)) (joined (found .rowTable)) (joined (found .columnTable)))
+    (record {
+      answer = answer;
+      passes = passes;
+      lines = joined (given .lines);
+      marks = marks;
+      rowTable = joined (given .rowTable);
+      columnTable = joined (given .columnTable);
+    })
 holds (changes rowTable columnTable n answer number) =
     let changed = changedWith rowTable columnTable n in
     eqb (changed .answer) answer && eqb (changed .number) number
