@@ -106,8 +106,9 @@ firsts line row column =
 abbrev pub givenUp : Store
 givenUp = record { lines = twice ∷ twice ∷ twice ∷ twice ∷ []; rowTable = twice ∷ clean ∷ []; columnTable = clean ∷ clean ∷ [] }
 
--- a parity line hurt at one place is handed over as read; an unusable one is made afresh, its row's line being rebuilt by its column; with
--- 11 it stays as found; and neither is compared with the lines: with both made afresh the answer is 0, with one it is 12
+-- a parity line hurt at one place is handed over as read; an unusable one is made afresh, also where its row's line was rebuilt by its
+-- column; with 11 it stays as found. Answer 12 compares accepted ones only: a line that no parity line allows for gives 0 where its row and
+-- its column are unusable, and 12 where its row alone is
 abbrev pub parityCases : List Sample
 parityCases =
     repairs (firsts clean (hurt (0 ∷ [])) clean) (firsts clean clean clean) (0 ∷ 0 ∷ 0 ∷ 0 ∷ []) 0 0
