@@ -15,7 +15,7 @@ use Rattle.report.specs.Check.{Buffers, lent, StoreChecked, checkStore}
 use Rattle.report.specs.Program.{programSide, zeroBuffers, programReport}
 use Rattle.report.specs.declared.report.Checked.{Checked}
 use Rattle.storefile.specs.declared.opening.Opened.{Opened}
-use Rattle.storefile.proofs.Openings.{sides-within, Opens, Outcome, refused, accepted, outcome}
+use Rattle.storefile.proofs.Openings.{sides-within, Outcome, refused, accepted, outcome}
 
 -- rows and columns of a file that opens are at most the limit; of another they are 0
 within-limit : (limit : ℕ) (file : List ℕ) (o : Opened) → o ≡ opened limit file → (o .rows ≤ limit) × (o .columns ≤ limit)

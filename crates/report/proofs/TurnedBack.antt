@@ -48,8 +48,8 @@ module _ (rows columns : ℕ) (lines rowTable columnTable : List ℕ) (b : Buffe
   abbrev refusal : ℕ
   refusal = repairRefusal rows columns lines rowTable columnTable (b .lines) (b .marks) (b .rowTable) (b .columnTable)
 
-  abbrev given : StoreRepaired
-  given = repairStore rows columns lines rowTable columnTable (b .lines) (b .marks) (b .rowTable) (b .columnTable)
+  abbrev result : StoreRepaired
+  result = repairStore rows columns lines rowTable columnTable (b .lines) (b .marks) (b .rowTable) (b .columnTable)
 
   handed : Repairing (rows * columns) b
       (handedOver lineLayer rows columns rowTable columnTable (repaired rows columns lines rowTable columnTable))
@@ -62,10 +62,10 @@ module _ (rows columns : ℕ) (lines rowTable columnTable : List ℕ) (b : Buffe
       (given .each ∙ length-linesIn (rows * columns) lines)
       (given .high)
 
-  repairing : Repairing (rows * columns) b given
+  repairing : Repairing (rows * columns) b result
   repairing = go (zero-or-not refusal)
     where
-      go : (refusal ≡ 0) ⊎ (refusal ≡ 0 → ⊥) → Repairing (rows * columns) b given
+      go : (refusal ≡ 0) ⊎ (refusal ≡ 0 → ⊥) → Repairing (rows * columns) b result
       go (inl z) =
           subst (Repairing (rows * columns) b) (sym (repair-runs rows columns lines rowTable columnTable lineLayer _ _ _ _ 0 z refl)) handed
       go (inr d) =
