@@ -57,12 +57,13 @@ pub record AnswersGiven : Type 0 where
   pub change : (r : Rectangle) (n : ℕ) (payload : List ℕ) → changeIn r n payload .answer ∈ changeAnswers
   pub repair : (r : Rectangle) (b : Buffers) → repairOf r b .answer ∈ repairAnswers
 
--- and 9 is in none of the three lists, nor are 13 and 14 in repair's: request Q-3, "repair no longer gives 13 or 14"
+-- and 9 is in none of the three lists
 pub record NineNotGiven : Type 0 where
   pub tables : (r : Rectangle) (oldRows oldColumns : List ℕ) → tablesFor r oldRows oldColumns .answer ≡ 9 → ⊥
   pub change : (r : Rectangle) (n : ℕ) (payload : List ℕ) → changeIn r n payload .answer ≡ 9 → ⊥
   pub repair : (r : Rectangle) (b : Buffers) → repairOf r b .answer ≡ 9 → ⊥
 
+-- ---- request Q-3: "repair no longer gives 13 or 14"
 pub record NeitherByRepair : Type 0 where
   pub thirteen : (r : Rectangle) (b : Buffers) → repairOf r b .answer ≡ 13 → ⊥
   pub fourteen : (r : Rectangle) (b : Buffers) → repairOf r b .answer ≡ 14 → ⊥

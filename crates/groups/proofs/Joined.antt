@@ -10,9 +10,13 @@ use Rattle.linecode.specs.Places.{lineBytes, xorBytes}
 use Rattle.rectangle.specs.Store.{bytesAt, putBytes}
 use Rattle.rectangle.proofs.Buffer.{lines-le}
 use Rattle.rectangle.proofs.Spare.{bytes-is}
-use Rattle.groups.specs.Lent.{numberOf, Within, differenceOf, Reached, added}
+use Rattle.groups.specs.Lent.{numberOf, Within, differenceOf, Reached}
 use Rattle.groups.specs.declared.tracked.Which.{Which}
 use Rattle.groups.specs.declared.tracked.Which.the-variants.{Row, Column}
+
+-- line k with a line added, byte by byte
+abbrev pub added : List ℕ → ℕ → List ℕ → List ℕ
+added lacks k line = putBytes lacks k (xorBytes (bytesAt lacks k) line)
 
 -- tables as long as before
 pub joined-length : (a b a′ b′ : List ℕ) → length a′ ≡ length a → length b′ ≡ length b → length (a′ ++ b′) ≡ length (a ++ b)

@@ -6,11 +6,11 @@ use Prim.Native.Nat.{ℕ, zero, suc, _+_, _-_, _*_, _≤_, _<_}
 use lib.Dec.{eqb, ltb}
 use lib.ListN.{length, getD, take}
 use Rattle.gf2.specs.Word.{Word, _⊕_}
-use Rattle.linecode.specs.Places.{linePlaces, lineOf, xorBytes}
+use Rattle.linecode.specs.Places.{linePlaces, lineOf}
 use Rattle.linecode.specs.Code.{upFrom}
 use Rattle.scheme.specs.Visit.{Group, State, lineAt, faultyOf, select, sum}
 use Rattle.scheme.specs.Repair.{linesOf, marksOf}
-use Rattle.rectangle.specs.Store.{bytesAt, bufferOf, putBytes, stride, row, column}
+use Rattle.rectangle.specs.Store.{bytesAt, bufferOf, stride, row, column}
 use Rattle.rectangle.specs.Refusals.{every}
 use Rattle.groups.specs.declared.tracked.Which.{Which}
 use Rattle.groups.specs.declared.tracked.Which.the-variants.{Row, Column}
@@ -137,10 +137,6 @@ pub record Numbered (rows columns k first step count : ℕ) : Type 0 where
 pub record Picked (rows columns : ℕ) (which : Which) (first step count : ℕ) : Type 0 where
   pub within : Within rows columns which
   pub numbered : Numbered rows columns (numberOf rows which) first step count
-
--- line k with a line added, byte by byte
-abbrev pub added : List ℕ → ℕ → List ℕ → List ℕ
-added lacks k line = putBytes lacks k (xorBytes (bytesAt lacks k) line)
 
 -- the numbers of the first k groups together
 abbrev pub countTo : List ℕ → ℕ → ℕ

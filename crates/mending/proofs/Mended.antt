@@ -20,11 +20,12 @@ use Rattle.scheme.proofs.Lists.{selects}
 use Rattle.rectangle.specs.Store.{bytesAt, putBytes}
 use Rattle.rectangle.proofs.Groups.{row-below, column-below}
 use Rattle.rectangle.proofs.Spare.{places-lineOf}
-use Rattle.groups.specs.Lent.{Holding, Room, Carried, Some, Beside, groupOf, membersOf, added}
+use Rattle.groups.specs.Lent.{Holding, Room, Carried, Some, Beside, groupOf, membersOf}
 use Rattle.groups.proofs.Numbers.{members-rising, home-row, home-column, homes}
 use Rattle.groups.proofs.Beside.{one-if, clean-sum, beside-elsewhere, beside-here}
 use Rattle.groups.proofs.Held.{held-count, held-mark, held-bytes, held-put}
 use Rattle.groups.proofs.Added.{put-length, put-same, put-other}
+use Rattle.groups.proofs.Joined.{added}
 
 -- a list with a member is not empty
 some-there : (n : ℕ) (l : List ℕ) → n ∈ l → 0 < length l

@@ -60,29 +60,6 @@ module _ (w : Word) (s : ℕ) (e : s ≡ bothSums w) where
   pub above : 65536 ≤ s → (accepted w ≡ false) × (s - 65536 ≡ columnSum positions (protected w))
   above = by-test (accepted w) refl .1
 
--- the number of a correct line is that of its Hamming bits
-pub correct-sums : (w : Word) (n : ℕ) → length w ≡ linePlaces → n ≡ number (storedHamming w)
-    → eqb (bothSums w) n ≡ isCorrect w
-correct-sums w n whole e = go (accepted w) refl ∙ sym (isCorrect-parts w whole)
-  where
-    sum-alone : (k : ℕ) → k + 0 ≡ k
-    sum-alone k = omega arith
-
-    small : number (storedHamming w) < 1024
-    small = subst (λ (k : ℕ). number (storedHamming w) < 2 ^ k) (length-storedHamming w whole) (number-lt (storedHamming w))
-
-    far : columnSum positions (protected w) + 65536 ≡ n → ⊥
-    far z = omega (arith, small)
-
-    go : (b : Bool) → accepted w ≡ b → eqb (bothSums w) n ≡ accepted w && eqb (columnSum positions (protected w)) (number (storedHamming w))
-    go true q =
-        ap₂ eqb (sums-when w true q ∙ sum-alone _) e
-        ∙ ap (λ (b : Bool). b && eqb (columnSum positions (protected w)) (number (storedHamming w))) (sym q)
-    go false q =
-        ap (λ (k : ℕ). eqb k n) (sums-when w false q)
-        ∙ ne-eqb (columnSum positions (protected w) + 65536) n far
-        ∙ ap (λ (b : Bool). b && eqb (columnSum positions (protected w)) (number (storedHamming w))) (sym q)
-
 -- a line whose number is that of its last two bytes, and whose spare bit is 0, reads as it stands
 pub untouched : (l : List ℕ) (s : ℕ) → length l ≡ 70 → Bytes l → s ≡ bothSums (places l)
     → getD l 67 0 < 128 → s ≡ getD l 68 0 + 256 * getD l 69 0 → reading l ≡ record { line = l; mark = 0 }

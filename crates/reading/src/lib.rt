@@ -11,7 +11,7 @@ ghost use mathlib.Core.Bool.{true, false};
 ghost use lib.Dec.{eqb};
 ghost use Rattle.gf2.specs.Check.{columnSum};
 ghost use Rattle.linecode.specs.Places.{places};
-ghost use Rattle.linecode.specs.Code.{protected, positions, accepted, isCorrect};
+ghost use Rattle.linecode.specs.Code.{protected, positions, accepted};
 ghost use Rattle.linecode.specs.Entry.{reading};
 ghost use Rattle.line_table.specs.Table.{lineTable};
 ghost use Rattle.sweep.specs.Sums.{bothSums};
@@ -76,12 +76,4 @@ pub fn is_untouched(line: [u8; 70], sums: u32) -> bool
         return sums == (line[68] as u32) + 256 * (line[69] as u32);
     }
     false
-}
-
-// Whether the places of a line are what writing its data gives.
-pub fn is_correct(table: &[u64; 4096], line: [u8; 70]) -> bool
-    requires { ⌜ now table ≡ lineTable ⌝ }
-    ensures { λ r. ⌜ r ≡ isCorrect (places line) ⌝ }
-{
-    sums_of(table, line) == hamming::stored(line) as u32
 }

@@ -19,9 +19,16 @@ use Rattle.rectangle.specs.Repair.{usedGroups}
 use Rattle.rectangle.proofs.Members.{map-below}
 use Rattle.groups.specs.Lent.{membersOf, groupOf}
 use Rattle.groups.proofs.Numbers.{past}
-use Rattle.repair.specs.Lent.{startOf, foundGroup, startsFrom, usedGroup, allGroups}
+use Rattle.repair.specs.Lent.{startOf, usedGroup, allGroups}
 
 -- ---- group k in the tables
+unfoldable pub foundGroup : ℕ → ℕ → List ℕ → List ℕ → ℕ → Group
+foundGroup rows columns rowTable columnTable k =
+    cond (ltb k rows) (rowGroup columns rowTable k) (columnGroup rows columns columnTable (k - rows))
+
+abbrev pub startsFrom : ℕ → ℕ → List ℕ → List ℕ → ℕ → Word
+startsFrom rows columns rowTable columnTable k = startOf (foundGroup rows columns rowTable columnTable k)
+
 module _ (rows columns : ℕ) (rt ct : List ℕ) where
   pub found-row : (r : ℕ) → r < rows → foundGroup rows columns rt ct r ≡ rowGroup columns rt r
   unfolding foundGroup

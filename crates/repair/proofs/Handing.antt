@@ -28,8 +28,8 @@ use Rattle.groups.specs.Lent.{Beside, Tracked, Carried, Rectangular, Room, Numb
 use Rattle.groups.proofs.Numbers.{by-number, any-numbered, members-inside}
 use Rattle.groups.proofs.Held.{held-count}
 use Rattle.groups.proofs.Joined.{first-at, second-at}
-use Rattle.repair.specs.Lent.{RanPasses, Finished, Started, Fresh, startOf, foundGroup, startsFrom, allGroups}
-use Rattle.repair.proofs.Groups.{found-row, found-column, found-members, starts-zero, map-map, all-groups}
+use Rattle.repair.specs.Lent.{RanPasses, Finished, Started, Fresh, startOf, allGroups}
+use Rattle.repair.proofs.Groups.{foundGroup, startsFrom, found-row, found-column, found-members, starts-zero, map-map, all-groups}
 
 -- ---- no line is read yet
 no-sum : (ns : List ℕ) → sum (lineAt []) ns ≡ []

@@ -2,8 +2,8 @@
 use mathlib.Core.Path.{_≡_}
 use mathlib.Core.Bool.{true, cond}
 use mathlib.Core.List.{List, map}
-use Prim.Native.Nat.{ℕ, _+_, _-_, _*_, _<_}
-use lib.Dec.{eqb, ltb}
+use Prim.Native.Nat.{ℕ, _+_, _*_, _<_}
+use lib.Dec.{eqb}
 use lib.ListN.{getD}
 use Rattle.gf2.specs.Word.{Word, _⊕_, zeros}
 use Rattle.linecode.specs.Places.{linePlaces, lineOf}
@@ -12,7 +12,7 @@ use Rattle.scheme.specs.Layer.{readLine}
 use Rattle.scheme.specs.Visit.{Group, State, lineAt, sum}
 use Rattle.scheme.specs.Repair.{readAll, passesFrom, answer}
 use Rattle.scheme.specs.Parity.{readParity, unusable, noLines}
-use Rattle.rectangle.specs.Store.{lineLayer, bytesAt, linesIn, rowGroup, columnGroup}
+use Rattle.rectangle.specs.Store.{lineLayer, bytesAt, linesIn}
 use Rattle.groups.specs.Lent.{Holding, membersOf, groupOf, Carried, Makes}
 
 -- ---- the parity lines, for groups of any direction
@@ -33,14 +33,6 @@ Fresh g total lacks s =
     (k : ℕ) → k < total → unusable lineLayer (g k) ≡ true → bytesAt lacks k ≡ lineOf (sum (lineAt s) (g k .members))
 
 -- ---- all groups
--- group k as it stands in the tables, and what its difference starts from
-unfoldable pub foundGroup : ℕ → ℕ → List ℕ → List ℕ → ℕ → Group
-foundGroup rows columns rowTable columnTable k =
-    cond (ltb k rows) (rowGroup columns rowTable k) (columnGroup rows columns columnTable (k - rows))
-
-abbrev pub startsFrom : ℕ → ℕ → List ℕ → List ℕ → ℕ → Word
-startsFrom rows columns rowTable columnTable k = startOf (foundGroup rows columns rowTable columnTable k)
-
 -- group k as it is visited: without lines where its parity line is marked faulty
 unfoldable pub usedGroup : ℕ → ℕ → List ℕ → (ℕ → Word) → ℕ → Group
 usedGroup rows columns parityMarks parity k = cond (eqb (getD parityMarks k 0) 4) noLines (groupOf rows columns parity k)
@@ -58,7 +50,8 @@ pub record RanPasses (rows columns : ℕ) (parityMarks out marks lacks faulty ou
 
 -- the lines found, read and passed over, stand in the buffers with their marks; the answer and the number of passes are theirs, and so
 -- are the differences
-pub record Finished (rows columns : ℕ) (parityMarks : List ℕ) (parity : ℕ → Word) (found out marks lacks : List ℕ) (answered passed : ℕ) : Type 0 where
+pub record Finished (rows columns : ℕ) (parityMarks : List ℕ) (parity : ℕ → Word) (found out marks lacks : List ℕ)
+    (answered passed : ℕ) : Type 0 where
   pub cells : State
   pub ran : passesFrom (readLine lineLayer) (allGroups rows columns parityMarks parity)
       (readAll (readLine lineLayer) 0 (linesIn (rows * columns) found))

@@ -37,7 +37,7 @@ pub fn read_rows(
     parity_marks: &mut [u8],
 )
     requires table { ⌜ now table ≡ lineTable ⌝ }
-    requires whole { ⌜ (rows ≤ 512) × (length (now «row_table») ≡ rows * 70) × (length (now «row_lacks») ≡ rows * 70)
+    requires room { ⌜ (rows ≤ 512) × (length (now «row_table») ≡ rows * 70) × (length (now «row_lacks») ≡ rows * 70)
         × (length (now «parity_marks») ≡ 1024) ⌝ }
     ensures { λ _. ⌜ ((columns : ℕ)
         → Started (rowGroup columns (now («row_table» .entry))) 0 rows (now («row_lacks» .exit))
@@ -63,7 +63,7 @@ pub fn read_columns(
     parity_marks: &mut [u8],
 )
     requires table { ⌜ now table ≡ lineTable ⌝ }
-    requires whole { ⌜ (rows ≤ 512) × (columns ≤ 512) × (length (now «column_table») ≡ columns * 70)
+    requires room { ⌜ (rows ≤ 512) × (columns ≤ 512) × (length (now «column_table») ≡ columns * 70)
         × (length (now «column_lacks») ≡ columns * 70) × (length (now «parity_marks») ≡ 1024) ⌝ }
     ensures { λ _. ⌜ Started (columnGroup rows columns (now («column_table» .entry))) rows columns (now («column_lacks» .exit))
         (now («parity_marks» .entry)) (now («parity_marks» .exit)) ⌝ }
@@ -97,7 +97,7 @@ pub fn hand_over_rows(
     whole: bool,
 )
     requires table { ⌜ now table ≡ lineTable ⌝ }
-    requires whole { ⌜ (rows ≤ 512) × (length (now «row_table») ≡ rows * 70) × (length (now «row_lacks») ≡ rows * 70) ⌝ }
+    requires room { ⌜ (rows ≤ 512) × (length (now «row_table») ≡ rows * 70) × (length (now «row_lacks») ≡ rows * 70) ⌝ }
     ensures { λ _. ⌜ ((columns : ℕ) (s : State) → whole ≡ eqb (faultyCount s) 0
         → Fresh (rowGroup columns (now («row_table» .entry))) rows (now («row_lacks» .entry)) s
         → now («row_lacks» .exit) ≡ tableAfter lineLayer s (rowGroups rows columns (now («row_table» .entry)))) ⌝ }
@@ -123,7 +123,7 @@ pub fn hand_over_columns(
     whole: bool,
 )
     requires table { ⌜ now table ≡ lineTable ⌝ }
-    requires whole { ⌜ (columns ≤ 512) × (length (now «column_table») ≡ columns * 70) × (length (now «column_lacks») ≡ columns * 70) ⌝ }
+    requires room { ⌜ (columns ≤ 512) × (length (now «column_table») ≡ columns * 70) × (length (now «column_lacks») ≡ columns * 70) ⌝ }
     ensures { λ _. ⌜ ((rows : ℕ) (s : State) → whole ≡ eqb (faultyCount s) 0
         → Fresh (columnGroup rows columns (now («column_table» .entry))) columns (now («column_lacks» .entry)) s
         → now («column_lacks» .exit) ≡ tableAfter lineLayer s (columnGroups rows columns (now («column_table» .entry)))) ⌝ }

@@ -30,7 +30,7 @@ fn needs_visit(faulty: &[u16], parity_marks: &[u8], rows: usize, which: Which) -
 }
 
 // All groups are visited; one without a faulty line costs a look at its count, and an unusable one is passed over.
-pub fn visit_all(
+fn visit_all(
     table: &[u64; 4096],
     out: &mut [u8],
     marks: &mut [u8],

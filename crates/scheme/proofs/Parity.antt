@@ -1,9 +1,9 @@
 -- Parity lines read alone: the visit of an unusable group does nothing; and within the bounds of demand 3 a group is used as it was
 -- written or not at all, and its parity line is left as written, or as found where lines are left faulty.
-use mathlib.Core.Path.{_≡_, refl}
+use mathlib.Core.Path.{_≡_, refl, ap}
 use mathlib.Core.Logic.{_⊎_, inl, inr}
 use mathlib.Core.Bool.{Bool, true, false, true≢false}
-use mathlib.Core.List.{List, map}
+use mathlib.Core.List.{List, [], _∷_, _++_, map}
 use Prim.Native.Nat.{ℕ, _≤_, _<_}
 use borrow.Author.Tests.{eqb-true, eqb-false, leb-true, leb-false}
 use lib.Dec.{eqb, leb}
@@ -11,7 +11,7 @@ use lib.ListN.{length}
 use Rattle.gf2.specs.Word.{Word, distance}
 use Rattle.scheme.specs.Layer.{Reading, Layer, CorrectLine, parityAddress, ReadsAs, Promises}
 use Rattle.scheme.specs.Visit.{Group, State, lineAt, sum, settle, trial, visit}
-use Rattle.scheme.specs.Repair.{faultyCount}
+use Rattle.scheme.specs.Repair.{pass, faultyCount}
 use Rattle.scheme.specs.Parity.{readParity, unusable, noLines, asRead, parityAfter, UnusableIdle}
 use Rattle.scheme.specs.Demand3.{_∈_, Rising, RisingGroups, wordAt, Written}
 use Rattle.scheme.proofs.Lists.{map-from}
@@ -27,8 +27,16 @@ pub nothing-to-visit : (read : Reading) (s : State) → visit read noLines s ≡
 unfolding visit trial settle
 nothing-to-visit read s = refl
 
+idle : (layer : Layer) (g : Group) → unusable layer g ≡ true → (read : Reading) (s : State) → visit read (asRead layer g) s ≡ s
+idle layer g e read s = rw (without-lines layer g e) (nothing-to-visit read s)
+
 pub unusable-idle : UnusableIdle
-unusable-idle layer g e read s = rw (without-lines layer g e) (nothing-to-visit read s)
+unusable-idle = record { byVisit = idle; byPass = passed }
+  where
+    passed : (layer : Layer) (g : Group) → unusable layer g ≡ true → (read : Reading) (before after : List Group) (s : State)
+        → pass read (before ++ asRead layer g ∷ after) s ≡ pass read (before ++ after) s
+    passed layer g e read [] after s = ap (pass read after) (idle layer g e read s)
+    passed layer g e read (h ∷ before) after s = passed layer g e read before after (visit read h s)
 
 -- groups as read rise where those found do
 pub rising-read : (layer : Layer) (gs : List Group) → RisingGroups gs → RisingGroups (map (asRead layer) gs)

@@ -12,7 +12,7 @@ use Rattle.gf2.proofs.Weight.{distance-self}
 use Rattle.scheme.specs.Layer.{Layer, parityAddress, Promises}
 use Rattle.scheme.specs.Visit.{Group, State, lineAt, isFaulty, sum}
 use Rattle.scheme.specs.Repair.{faultyCount}
-use Rattle.scheme.specs.Parity.{readParity, unusable, asRead, parityAfter}
+use Rattle.scheme.specs.Parity.{readParity, unusable, asRead, parityAfter, ParityLines}
 use Rattle.scheme.proofs.Faithful.{accepted-mark}
 
 module _ (layer : Layer) where
@@ -58,3 +58,13 @@ module _ (layer : Layer) where
   used-as-found promises g c =
       let r = promises .corrects _ (g .parity) (g .parity) c (promises .sized _ (g .parity) c) (omega (arith, distance-self (g .parity))) in
       usable g (accepted-mark _ _ r) ∙ ap (λ (w : Word). record { members = g .members; parity = w }) (r .gives)
+
+-- the named claims
+pub parity-lines : ParityLines
+parity-lines layer promises g sized =
+    record {
+      used = usable layer g;
+      accepted = λ e s. left-accepted layer s g e;
+      asFound = λ e s. left-found layer promises g sized s e;
+      afresh = λ e s. left-afresh layer s g e;
+    }

@@ -4,7 +4,7 @@ use mathlib.Core.Path.{refl, _∙_}
 use mathlib.Core.List.{[], _++_}
 use lib.ListN.{replicate}
 use Rattle.groups.specs.Lent.{Tracked}
-use Rattle.repair.specs.Lent.{startsFrom}
+use Rattle.repair.proofs.Groups.{startsFrom}
 use Rattle.repair.proofs.Refusing.{RepairPass, repair-passes}
 use Rattle.repair.proofs.Handing.{zero-marks-long, started, marked, same-rect, fresh-rows, fresh-columns, none-left, handed}
 use Rattle.repair.proofs.repair_fitting.Statement.{statement}
