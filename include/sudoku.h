@@ -14,8 +14,8 @@
  *   true length may be handed in; one that the call cannot use is refused. A null pointer goes with length 0 only.
  * - `mark`, `passes` and `number` are not null. They are returned values: every call sets them, to 0 on refusals but for three,
  *   below.
- * - Writable buffers, `mark`, `passes` and `number` among them, overlap nothing else that is handed in. Buffers that are only read
- *   may overlap each other.
+ * - Writable buffers, `mark`, `passes` and `number` among them, overlap nothing else that is handed in: `row_out` is not `row_table`,
+ *   nor `column_out` `column_table`, which repair reads to the end. Buffers that are only read may overlap each other.
  * - Callers of sudoku_change_line and sudoku_repair are compiled with this header. Earlier ones had fewer or other parameters: a
  *   call compiled with one of them still links, and then bytes are written to places that the caller never named.
  * - Repair needs less than 48 kB of stack (about 32 kB of it a table), making tables about 110 kB, whatever the size of the
@@ -26,11 +26,11 @@
  *   is no result. Only sudoku_read_line's 10 writes: `out` is then the line as found. Test the answer first.
  * - After SUDOKU_LEFT (11) the lines with mark 4 are damaged, as found, and so are the parity lines that were not accepted.
  * - After SUDOKU_DIFFERS (12) trust no line: none is faulty, but some parity line that was accepted disagrees. Some line may be
- *   wrong, and nothing tells which.
+ *   wrong, and nothing tells which. Parity lines made afresh agree with such lines: keep the tables that were handed in.
  * - After SUDOKU_DONE lines and tables of a repair are those written, if no line and no parity line had more than five damaged
  *   bits. What holds beyond that is in README.md.
- * - After SUDOKU_ROW_PARITY (13) or SUDOKU_COLUMN_PARITY (14), which only a change gives, repair the store: after 0 and 12 all its
- *   parity lines are correct lines. Or load that table anew. The row is tested first: with 13 the column's may be bad too.
+ * - After SUDOKU_ROW_PARITY (13) or SUDOKU_COLUMN_PARITY (14), which only a change gives, repair the store: after 0 lines and tables
+ *   agree, and any line can be changed. Or load that table anew. The row is tested first: with 13 the column's may be bad too.
  * - Lines and tables of zero bytes are a valid store, all lines and parity lines correct. Memory that was cleared cannot be told
  *   from a store of empty captions.
  *

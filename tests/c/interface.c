@@ -3,6 +3,7 @@
  * is 1 if anything did.
  */
 #define _POSIX_C_SOURCE 200809L
+#include <limits.h>
 #include <pthread.h>
 #include <stdio.h>
 #include <string.h>
@@ -487,6 +488,23 @@ static size_t depth_of(void (*call)(void))
     return deep.top - (uintptr_t)stack_made - untouched;
 }
 
+/*
+ * Whether a call can be made on a small stack: so many bytes, and the least that a thread needs for itself. Below it lies a page that
+ * nobody may touch, so that a call which needs more ends the program.
+ */
+static int runs_within(void (*call)(void), size_t bytes)
+{
+    const size_t page = (size_t)sysconf(_SC_PAGESIZE), whole = bytes + PTHREAD_STACK_MIN;
+    struct deep deep = {call, 0};
+    pthread_attr_t attributes;
+    pthread_t thread;
+    int made = whole % page == 0 && page + whole <= STACK_BYTES && mprotect(stack_made, page, PROT_NONE) == 0;
+
+    made = made && pthread_attr_init(&attributes) == 0 && pthread_attr_setstack(&attributes, stack_made + page, whole) == 0
+           && pthread_create(&thread, &attributes, call_deep, &deep) == 0 && pthread_join(thread, NULL) == 0;
+    return mprotect(stack_made, page, PROT_READ | PROT_WRITE) == 0 && made && deep.top != 0;
+}
+
 /* A store of the greatest size, and all that repair writes of it. */
 enum { SIDE = SUDOKU_GREATEST_SIDE, BIG = SIDE * SIDE };
 
@@ -609,7 +627,9 @@ static void touch_deep(void)
     big_answer = array[DEEP - 1];
 }
 
-/* The stack that repair took at most. */
+/* The stack that repair may take, and what it took at most. */
+enum { REPAIR_STACK = 48 * 1024 };
+
 static size_t repair_depth;
 
 static int repair_fits(void)
@@ -618,7 +638,14 @@ static int repair_fits(void)
 
     if (depth > repair_depth)
         repair_depth = depth;
-    return 0 < depth && depth < 48 * 1024;
+    return 0 < depth && depth < REPAIR_STACK;
+}
+
+static int takes_less(void (*call)(void), size_t bytes)
+{
+    const size_t depth = depth_of(call);
+
+    return 0 < depth && depth < bytes;
 }
 
 static void stack_depths(void)
@@ -641,12 +668,13 @@ static void stack_depths(void)
     put_big_back();
     lose_big();
     CHECK(repair_fits() && big_answer == SUDOKU_LEFT && big_passes == 1 && big_marks[SIDE + 1] == SUDOKU_MARK_FAULTY);
+    CHECK(runs_within(big_repair, REPAIR_STACK) && big_answer == SUDOKU_LEFT);
     put_big_back();
 
-    CHECK(depth_of(big_tables) < 110 * 1024 && big_answer == SUDOKU_DONE);
-    CHECK(depth_of(big_change) < 2 * 1024 && big_answer == SUDOKU_DONE);
-    CHECK(depth_of(read_one) < 2 * 1024 && big_answer == SUDOKU_DONE);
-    CHECK(depth_of(write_one) < 2 * 1024 && big_answer == SUDOKU_DONE);
+    CHECK(takes_less(big_tables, 110 * 1024) && big_answer == SUDOKU_DONE);
+    CHECK(takes_less(big_change, 2 * 1024) && big_answer == SUDOKU_DONE);
+    CHECK(takes_less(read_one, 2 * 1024) && big_answer == SUDOKU_DONE);
+    CHECK(takes_less(write_one, 2 * 1024) && big_answer == SUDOKU_DONE);
 }
 
 int main(void)

@@ -1,5 +1,6 @@
 -- What is refused, and what is handed over.
 pub mod Refused
+pub mod Left
 pub mod TableLines
 pub mod Handed
 pub mod Marks

@@ -81,6 +81,14 @@ HandsOverAsLeft =
     → (repairOf r b .lines ≡ bufferOf (linesOf (stepsOn r .cells)))
     × (repairOf r b .marks ≡ marksOf (stepsOn r .cells))
 
+-- ---- Document 01: "11. Faulty lines are left after the last pass.": with 11 some line has mark 4, with 0 and 12 none has
+pub record LeftFaulty (lines : ℕ) (given : StoreRepaired) : Type 0 where
+  pub some : given .answer ≡ 11 → (n : ℕ) × (n < lines) × (getD (given .marks) n 0 ≡ 4)
+  pub none : (given .answer ≡ 11 → ⊥) → (n : ℕ) → getD (given .marks) n 0 ≡ 4 → ⊥
+
+abbrev pub ElevenIsLeft : Type 0
+ElevenIsLeft = (r : Rectangle) (b : Buffers) → handsOver (repairOf r b .answer) ≡ true → LeftFaulty (count r) (repairOf r b)
+
 -- ---- Demand 2: "Written lines and tables are those of the named Hamming and BCH codes,"
 -- where tables are made, each of their parity lines is a correct line
 pub record TablesOfTheCode (r : Rectangle) (oldRows oldColumns : List ℕ) : Type 0 where

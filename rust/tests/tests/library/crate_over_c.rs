@@ -134,6 +134,8 @@ fn threads_call_at_once() {
                     let expected = drawn.repaired(0);
                     let repaired = store_of(&drawn).repair();
                     assert_eq!(repaired.store.lines(), expected.lines);
+                    assert_eq!(repaired.store.row_table(), expected.row_table);
+                    assert_eq!(repaired.store.column_table(), expected.column_table);
                 }
             });
         }

@@ -21,6 +21,18 @@ fn expect_bytes(given: &Outcome, expected: &Store, case: usize) {
     assert!(given.column_table == expected.column_table, "case {case}");
 }
 
+/// Each parity line is that of the store written, or as found.
+fn expect_parity(given: &Outcome, written: &Store, found: &Store) {
+    let tables = |rows: &[u8], columns: &[u8]| [rows, columns].concat();
+    let written = tables(&written.row_table, &written.column_table);
+    let found = tables(&found.row_table, &found.column_table);
+    let given = tables(&given.row_table, &given.column_table);
+    let lines = written.chunks(LINE_BYTES).zip(found.chunks(LINE_BYTES));
+    for (given, (written, found)) in given.chunks(LINE_BYTES).zip(lines) {
+        assert!(given == written || given == found);
+    }
+}
+
 /// Whether some parity line of a store is faulty.
 fn has_unusable(store: &Store) -> bool {
     let tables = [&store.row_table[..], &store.column_table].concat();
@@ -135,7 +147,9 @@ fn up_to_five_damaged_bits_no_line_is_wrong() {
         }
         let left = given.marks.contains(&4);
         assert_eq!(given.answer, if left { 11 } else { 0 });
-        if !left {
+        if left {
+            expect_parity(&given, &written, &hurt);
+        } else {
             expect_bytes(&given, &written, case);
         }
     }
