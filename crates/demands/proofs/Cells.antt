@@ -24,14 +24,14 @@ use Rattle.scheme.proofs.Used.{usable, left-accepted, left-afresh, left-found, 
 use Rattle.scheme.proofs.Sound.{repair-sound}
 use Rattle.rectangle.specs.Store.{lineLayer, bytesAt, placesAt, row, column, rowGroups, columnGroups, groups}
 use Rattle.rectangle.specs.Refusals.{every}
-use Rattle.rectangle.specs.Repair.{StoreRepaired, usedGroups, repairedBy, tableAfter, handsOver, handedOver}
+use Rattle.rectangle.specs.Repair.{Buffers, StoreRepaired, usedGroups, repairedBy, tableAfter, handsOver, handedOver}
 use Rattle.rectangle.proofs.Groups.{sides, by-groups, groups-inside}
 use Rattle.rectangle.proofs.Stride.{in-stride}
 use Rattle.rectangle.proofs.LineLayer.{kept}
 use Rattle.rectangle.proofs.Members.{in-left, in-right}
 use Rattle.rectangle.proofs.Spare.{places-lineOf}
 use Rattle.rectangle.proofs.Tests.{every-at, some-fails}
-use Rattle.demands.specs.Demands.{Rectangle, count, Buffers, repairOf, groupsOf}
+use Rattle.demands.specs.Demands.{Rectangle, count, repairOf, groupsOf}
 use Rattle.demands.specs.Cells.{TableGiven, TablesGiven, Differs, AcceptedCompared, CorrectAsFound}
 use Rattle.demands.proofs.Refused.{answer-left, answer-none, answer-agree, answer-differ, handed, sizes}
 use Rattle.demands.proofs.TableLines.{table-bytes, table-line}

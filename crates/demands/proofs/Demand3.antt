@@ -17,8 +17,8 @@ use Rattle.scheme.proofs.NoneWrong.{end-line}
 use Rattle.scheme.proofs.ExactReturn.{none-faulty, exact-return}
 use Rattle.rectangle.specs.Store.{lineLayer, linesIn, bufferOf, groups}
 use Rattle.rectangle.specs.Refusals.{repairRefusal}
-use Rattle.rectangle.specs.Repair.{usedGroups, repairedBy, handedOver}
-use Rattle.demands.specs.Demands.{Rectangle, count, Buffers, repairOf, Room, groupsOf, stepsOn, Written, Alike, WithinBounds, DamagedSo, Returned, ExactReturn, NotAlike}
+use Rattle.rectangle.specs.Repair.{Buffers, usedGroups, repairedBy, handedOver}
+use Rattle.demands.specs.Demands.{Rectangle, count, repairOf, Room, groupsOf, stepsOn, Written, Alike, WithinBounds, DamagedSo, Returned, ExactReturn, NotAlike}
 use Rattle.rectangle.proofs.Buffer.{linesIn-equal}
 use Rattle.rectangle.proofs.Groups.{by-groups, rising-groups, equal-groups}
 use Rattle.demands.proofs.Refused.{refusal, runs}

@@ -22,7 +22,8 @@ use Rattle.scheme.specs.Demand3.{_∈_, wordAt}
 use Rattle.rectangle.specs.Store.{lineLayer, placesAt, linesIn, bufferOf, column, columnGroup}
 use Rattle.rectangle.specs.Refusals.{sideFits, sidesFit}
 use Rattle.rectangle.specs.Change.{newLine}
-use Rattle.demands.specs.Demands.{Rectangle, Buffers, repairOf, Room, Written, Distinct, damage, damagedAt, rowDamage, columnDamage, Alone, Paired, WithinBounds, DamagedSo, Returned, HypothesisMet}
+use Rattle.rectangle.specs.Repair.{Buffers}
+use Rattle.demands.specs.Demands.{Rectangle, repairOf, Room, Written, Distinct, damage, damagedAt, rowDamage, columnDamage, Alone, Paired, WithinBounds, DamagedSo, Returned, HypothesisMet}
 use Rattle.rectangle.proofs.Members.{in-upFrom, upFrom-bounds}
 use Rattle.rectangle.proofs.Spare.{places-is}
 use Rattle.rectangle.proofs.Buffer.{Sized, placesAt-bufferOf, linesIn-bufferOf, length-bufferOf, length-holds, linesIn-equal}

@@ -19,8 +19,8 @@ use Rattle.scheme.proofs.Passes.{repair-passes-none, repair-passes-bound}
 use Rattle.scheme.proofs.Stays.{first-reading-at, repair-stays, repair-length, faulty-as-found}
 use Rattle.rectangle.specs.Store.{lineLayer, bytesAt, placesAt, linesIn, bufferOf, aloneAt, groups}
 use Rattle.rectangle.specs.Refusals.{acceptedAt}
-use Rattle.rectangle.specs.Repair.{usedGroups, repairedBy, handsOver, handedOver}
-use Rattle.demands.specs.Demands.{Rectangle, count, Buffers, repairOf, groupsOf, stepsOn, faultyAlone, PassesOf, PassesReturned, GivenAsRead, AcceptedNeverAltered, FaultyAsFound}
+use Rattle.rectangle.specs.Repair.{Buffers, usedGroups, repairedBy, handsOver, handedOver}
+use Rattle.demands.specs.Demands.{Rectangle, count, repairOf, groupsOf, stepsOn, faultyAlone, PassesOf, PassesReturned, GivenAsRead, AcceptedNeverAltered, FaultyAsFound}
 use Rattle.rectangle.proofs.Alone.{read-from}
 use Rattle.rectangle.proofs.Buffer.{length-placesAt, length-linesIn, linesIn-at, bytesAt-bufferOf}
 use Rattle.rectangle.proofs.Groups.{sides, by-groups, rising-groups, groups-inside}

@@ -19,11 +19,11 @@ use Rattle.scheme.proofs.Readings.{same-faulty, acceptedMarksDecideNothing}
 use Rattle.rectangle.specs.Store.{lineLayer, placesAt, linesIn, bufferOf, aloneAt, groups}
 use Rattle.rectangle.specs.Before.{layerBefore}
 use Rattle.rectangle.specs.Refusals.{acceptedAt}
-use Rattle.rectangle.specs.Repair.{usedGroups, repairedBy, tableAfter, handsOver, handedOver}
+use Rattle.rectangle.specs.Repair.{Buffers, usedGroups, repairedBy, tableAfter, handsOver, handedOver}
 use Rattle.rectangle.proofs.Buffer.{length-placesAt, linesIn-at}
 use Rattle.rectangle.proofs.LineLayer.{kept, marks-tell, as-before}
 use Rattle.rectangle.proofs.Runs.{zero-or-not, repair-runs, repair-refused}
-use Rattle.demands.specs.Demands.{Rectangle, count, Buffers, repairOf, groupsOf}
+use Rattle.demands.specs.Demands.{Rectangle, count, repairOf, groupsOf}
 use Rattle.demands.specs.Marks.{MarkTells, MarksTellDamage, LinesReadAsBefore, repairBefore, SameButMarks, RepairedAsBefore}
 use Rattle.demands.proofs.Refused.{refusal, runs, refused, handed}
 use Rattle.demands.proofs.Handed.{found, end, within, within-end, mark-handed, line-bytes, places-given}

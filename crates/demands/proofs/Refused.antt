@@ -15,8 +15,8 @@ use Rattle.rectangle.specs.Store.{lineLayer, linesIn}
 use Rattle.rectangle.specs.Refusals.{tablesRefusal, changeRefusal, repairRefusal}
 use Rattle.rectangle.specs.Tables.{TablesMade}
 use Rattle.rectangle.specs.Change.{LineChanged}
-use Rattle.rectangle.specs.Repair.{repairedBy, handsOver, handedOver}
-use Rattle.demands.specs.Demands.{Rectangle, count, Buffers, tablesFor, changeIn, repairOf, groupsOf, stepsOn, RefusalsWriteNothing, HandsOverAsLeft, GivenUpLast}
+use Rattle.rectangle.specs.Repair.{Buffers, repairedBy, handsOver, handedOver}
+use Rattle.demands.specs.Demands.{Rectangle, count, tablesFor, changeIn, repairOf, groupsOf, stepsOn, RefusalsWriteNothing, HandsOverAsLeft, GivenUpLast}
 use Rattle.rectangle.proofs.Tests.{passed, failed}
 use Rattle.rectangle.proofs.Refusing.{SizesPass, sizes-then}
 use Rattle.rectangle.proofs.Runs.{zero-or-not, answer-hands-over, refusal-hands-nothing, tables-run, tables-refused, change-runs, change-refused, repair-runs, repair-refused}

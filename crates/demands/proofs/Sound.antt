@@ -20,14 +20,14 @@ use Rattle.scheme.proofs.Sound.{repair-sound}
 use Rattle.scheme.proofs.Sums.{sum-ext}
 use Rattle.rectangle.specs.Store.{lineLayer, bytesAt, placesAt, aloneAt, rowGroup, columnGroup}
 use Rattle.rectangle.specs.Tables.{rowParity, columnParity}
-use Rattle.rectangle.specs.Repair.{usedGroups, repairedBy, handsOver, handedOver}
+use Rattle.rectangle.specs.Repair.{Buffers, usedGroups, repairedBy, handsOver, handedOver}
 use Rattle.rectangle.proofs.Buffer.{length-holds, length-bufferOf}
 use Rattle.rectangle.proofs.Groups.{row-listed, column-listed}
 use Rattle.rectangle.proofs.LineLayer.{kept}
 use Rattle.rectangle.proofs.Members.{length-upFrom, map-upFrom}
 use Rattle.rectangle.proofs.Spare.{places-lineOf}
 use Rattle.rectangle.proofs.Tests.{lengths-tables}
-use Rattle.demands.specs.Demands.{Rectangle, count, Buffers, repairOf, groupsOf}
+use Rattle.demands.specs.Demands.{Rectangle, count, repairOf, groupsOf}
 use Rattle.demands.specs.Cells.{TableGiven, GivenCorrect, WholeAfterZero}
 use Rattle.demands.proofs.Refused.{answer-none, handed, sizes}
 use Rattle.demands.proofs.Handed.{found, end, end-length, within, within-end, mark-handed, some-columns, all-places, places-given}

@@ -17,7 +17,7 @@ use Rattle.rectangle.specs.Store.{lineLayer, bytesAt, placesAt, linesIn, buffer
 use Rattle.rectangle.specs.Refusals.{sidesFit, holds, tablesFit, acceptedAt}
 use Rattle.rectangle.specs.Tables.{rowParity, columnParity, rowTableOf, columnTableOf, TablesMade, makeTables}
 use Rattle.rectangle.specs.Change.{LineChanged, changeLine}
-use Rattle.rectangle.specs.Repair.{usedGroups, repaired, StoreRepaired, handsOver, repairStore}
+use Rattle.rectangle.specs.Repair.{usedGroups, Buffers, repaired, StoreRepaired, handsOver, repairStore}
 
 -- a rectangle: its rows and columns, and in bytes its lines and both tables
 pub record Rectangle : Type 0 where
@@ -37,13 +37,6 @@ tablesFor r oldRows oldColumns = makeTables (r .rows) (r .columns) (r .lines) ol
 
 unfoldable pub changeIn : Rectangle → ℕ → List ℕ → LineChanged
 changeIn r n payload = changeLine (r .rows) (r .columns) (r .lines) (r .rowTable) (r .columnTable) n payload
-
--- the four buffers that repair writes, as handed in
-pub record Buffers : Type 0 where
-  pub lines : List ℕ
-  pub marks : List ℕ
-  pub rowTable : List ℕ
-  pub columnTable : List ℕ
 
 unfoldable pub repairOf : Rectangle → Buffers → StoreRepaired
 repairOf r b =

@@ -11,8 +11,8 @@ use Rattle.scheme.specs.Visit.{isFaulty}
 use Rattle.rectangle.specs.Store.{lineLayer, placesAt, aloneAt}
 use Rattle.rectangle.specs.Before.{layerBefore}
 use Rattle.rectangle.specs.Refusals.{acceptedAt}
-use Rattle.rectangle.specs.Repair.{StoreRepaired, handsOver, repairBy}
-use Rattle.demands.specs.Demands.{Rectangle, count, Buffers, repairOf}
+use Rattle.rectangle.specs.Repair.{Buffers, StoreRepaired, handsOver, repairBy}
+use Rattle.demands.specs.Demands.{Rectangle, count, repairOf}
 
 -- ---- "Reading alone now says whether any of the 553 places was rewritten, and mark 1 means an accepted line that was rewritten anywhere.
 -- Mark 0 is left for lines correct as found."

@@ -10,7 +10,8 @@ use Rattle.scheme.specs.Demand3.{_∈_}
 use Rattle.rectangle.specs.Store.{lineLayer, placesAt, row, column}
 use Rattle.rectangle.specs.Refusals.{sidesFit, holds, tablesFit, tablesAnswers, changeAnswers, repairAnswers}
 use Rattle.rectangle.specs.Change.{LineChanged}
-use Rattle.demands.specs.Demands.{Rectangle, count, Buffers, tablesFor, changeIn, repairOf}
+use Rattle.rectangle.specs.Repair.{Buffers}
+use Rattle.demands.specs.Demands.{Rectangle, count, tablesFor, changeIn, repairOf}
 
 -- ---- "13, a bad row parity line, and 14, a bad column parity line": those of row k and of column k are correct lines
 abbrev pub RowCorrect : Rectangle → ℕ → Type 0

@@ -1,23 +1,20 @@
 -- What both sums of a line tell, by whether their number is below 65536.
-use mathlib.Core.Path.{_≡_, refl, sym, ap, ap₂, _∙_, subst}
-use mathlib.Core.Bool.{Bool, true, false, _&&_}
+use mathlib.Core.Path.{_≡_, refl, sym, ap, ap₂, _∙_}
+use mathlib.Core.Bool.{Bool, true, false}
 use mathlib.Core.List.{List, [], _∷_}
-use Prim.Native.Nat.{ℕ, _+_, _-_, _*_, _/_, _%_, _^_, _≤_, _<_}
+use Prim.Native.Nat.{ℕ, _+_, _-_, _*_, _/_, _%_, _≤_, _<_}
 use native.Mathlib.Omega.{arith}
-use borrow.Author.Tests.{eq-eqb, ne-eqb}
-use lib.Dec.{eqb}
+use borrow.Author.Tests.{eq-eqb}
 use lib.ListN.{length, getD, set}
 use lib.Seq.{sets, set-getD}
 use Rattle.gf2.specs.Word.{Word, number}
 use Rattle.gf2.specs.Check.{columnSum}
-use Rattle.gf2.proofs.Digits.{number-lt}
-use Rattle.linecode.specs.Places.{linePlaces, places}
-use Rattle.linecode.specs.Code.{positions, protected, accepted, storedHamming, isCorrect}
+use Rattle.linecode.specs.Places.{places}
+use Rattle.linecode.specs.Code.{positions, protected, accepted, storedHamming}
 use Rattle.linecode.specs.Entry.{reading}
 use Rattle.linecode.proofs.Bytes.{Bytes, byte-at}
 use Rattle.linecode.proofs.Line.{length-places}
 use Rattle.linecode.proofs.Positions.{position-sum-lt}
-use Rattle.linecode.proofs.Codeword.{length-storedHamming, isCorrect-parts}
 use Rattle.linecode.proofs.Stores.{stored-sum, storedHamming-number}
 use Rattle.linecode.proofs.ReadAlone.{read-accepted, mark-when, in-bytes}
 use Rattle.sweep.specs.Sums.{bothSums}

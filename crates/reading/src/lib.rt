@@ -8,7 +8,6 @@ use linecode::place;
 use sweep::sums_of;
 ghost use mathlib.Core.Path.{_≡_};
 ghost use mathlib.Core.Bool.{true, false};
-ghost use lib.Dec.{eqb};
 ghost use Rattle.gf2.specs.Check.{columnSum};
 ghost use Rattle.linecode.specs.Places.{places};
 ghost use Rattle.linecode.specs.Code.{protected, positions, accepted};

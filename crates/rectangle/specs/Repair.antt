@@ -26,6 +26,13 @@ repaired = repairedBy lineLayer
 unfoldable pub tableAfter : Layer → State → List Group → List ℕ
 tableAfter layer s gs = bufferOf (map (parityAfter layer s) gs)
 
+-- the four buffers that repair writes, as they are handed in
+pub record Buffers : Type 0 where
+  pub lines : List ℕ
+  pub marks : List ℕ
+  pub rowTable : List ℕ
+  pub columnTable : List ℕ
+
 -- what repair answers, its passes, and the four buffers as it leaves them
 pub record StoreRepaired : Type 0 where
   pub answer : ℕ

@@ -11,7 +11,8 @@ use lib.Seq.{length-take-le}
 use Rattle.linecode.specs.Places.{lineBytes}
 use Rattle.storefile.specs.Opening.{rowsIn, columnsIn, sidesWithin, opened}
 use Rattle.report.specs.Report.{reportText, reportBytes, ReportWritten, writeReport}
-use Rattle.report.specs.Check.{Buffers, lent, StoreChecked, checkStore}
+use Rattle.rectangle.specs.Repair.{Buffers}
+use Rattle.report.specs.Check.{lent, StoreChecked, checkStore}
 use Rattle.report.specs.Program.{programSide, zeroBuffers, programReport}
 use Rattle.report.specs.declared.report.Checked.{Checked}
 use Rattle.storefile.specs.declared.opening.Opened.{Opened}

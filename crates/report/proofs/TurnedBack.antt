@@ -15,7 +15,7 @@ use Rattle.scheme.specs.Demand3.{_∈_}
 use Rattle.scheme.proofs.Marking.{repair-marks}
 use Rattle.rectangle.specs.Store.{lineLayer, linesIn}
 use Rattle.rectangle.specs.Refusals.{repairRefusal, repairAnswers}
-use Rattle.rectangle.specs.Repair.{StoreRepaired, usedGroups, repairedBy, repaired, handsOver, handedOver, repairStore}
+use Rattle.rectangle.specs.Repair.{Buffers, StoreRepaired, usedGroups, repairedBy, repaired, handsOver, handedOver, repairStore}
 use Rattle.rectangle.proofs.Buffer.{length-linesIn}
 use Rattle.rectangle.proofs.LineLayer.{kept}
 use Rattle.rectangle.proofs.Runs.{zero-or-not, answer-hands-over, refusal-hands-nothing, repair-runs, repair-refused, repair-answers}
@@ -23,7 +23,7 @@ use Rattle.rectangle.proofs.Tests.{every-at, not-among, either-way}
 use Rattle.storefile.specs.Opening.{rowsIn, columnsIn, openRefusal, opened}
 use Rattle.report.specs.Marks.{countsOf}
 use Rattle.report.specs.Report.{ReportWritten, reportBytes, writeReport}
-use Rattle.report.specs.Check.{Buffers, leftBy, StoreChecked, refusedWith, repairOpened, counted, checkStore}
+use Rattle.report.specs.Check.{leftBy, StoreChecked, refusedWith, repairOpened, counted, checkStore}
 use Rattle.report.specs.Promises.{total, CheckCountsLines, CheckRefusalsWriteNothing, NineNotGiven}
 use Rattle.report.specs.declared.report.Checked.{Checked}
 use Rattle.storefile.proofs.Answers as Opening

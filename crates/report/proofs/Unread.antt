@@ -11,7 +11,8 @@ use Rattle.storefile.specs.Opening.{openRefusal, opened, bytesNeeded}
 use Rattle.storefile.specs.declared.opening.Opened.{Opened}
 use Rattle.storefile.proofs.Openings.{opened-refused}
 use Rattle.storefile.proofs.Needed.{Refused, both-refused}
-use Rattle.report.specs.Check.{Buffers, refusedWith, checkStore}
+use Rattle.rectangle.specs.Repair.{Buffers}
+use Rattle.report.specs.Check.{refusedWith, checkStore}
 use Rattle.report.specs.Promises.{MoreChangesNothing}
 use Rattle.report.proofs.Checking.{check-refused}
 

@@ -3,7 +3,7 @@ use mathlib.Core.Bool.{cond}
 use mathlib.Core.List.{List}
 use Prim.Native.Nat.{ℕ}
 use lib.Dec.{eqb}
-use Rattle.rectangle.specs.Repair.{StoreRepaired, handsOver, repairStore}
+use Rattle.rectangle.specs.Repair.{Buffers, StoreRepaired, handsOver, repairStore}
 use Rattle.storefile.specs.Header.{linesPart, rowTablePart, columnTablePart, bytesIn}
 use Rattle.storefile.specs.Opening.{opened}
 use Rattle.report.specs.Marks.{countsOf, noCounts}
@@ -11,13 +11,6 @@ use Rattle.storefile.specs.declared.opening.Opened.{Opened}
 use Rattle.report.specs.declared.report.Checked.{Checked}
 
 -- the four buffers that repair writes
-pub record Buffers : Type 0 where
-  pub lines : List ℕ
-  pub marks : List ℕ
-  pub rowTable : List ℕ
-  pub columnTable : List ℕ
-
--- these four
 abbrev pub lent : List ℕ → List ℕ → List ℕ → List ℕ → Buffers
 lent lines marks rowTable columnTable = record { lines = lines; marks = marks; rowTable = rowTable; columnTable = columnTable }
 

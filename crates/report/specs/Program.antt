@@ -5,7 +5,8 @@ use lib.ListN.{replicate}
 use Rattle.linecode.specs.Places.{lineBytes}
 use Rattle.storefile.specs.Opening.{opened}
 use Rattle.report.specs.Report.{ReportWritten, writeReport}
-use Rattle.report.specs.Check.{Buffers, checkStore}
+use Rattle.rectangle.specs.Repair.{Buffers}
+use Rattle.report.specs.Check.{checkStore}
 
 -- 3: the most rows and columns of a store that the program takes
 unfoldable pub programSide : ℕ

@@ -4,12 +4,12 @@ use mathlib.Core.Bool.{true, false}
 use mathlib.Core.List.{List, [], _∷_}
 use Prim.Native.Nat.{ℕ, _+_, _-_, _*_, _≤_, _<_}
 use lib.ListN.{length, take, getD}
-use Rattle.rectangle.specs.Repair.{handsOver}
+use Rattle.rectangle.specs.Repair.{Buffers, handsOver}
 use Rattle.storefile.specs.Header.{headerBytes}
 use Rattle.storefile.specs.Opening.{bytesNeeded}
 use Rattle.report.specs.Marks.{countsOf}
 use Rattle.report.specs.Report.{decimal, writeReport}
-use Rattle.report.specs.Check.{Buffers, refusedWith, checkStore}
+use Rattle.report.specs.Check.{refusedWith, checkStore}
 use Rattle.report.specs.declared.marks.Counts.{Counts}
 use Rattle.report.specs.declared.report.Checked.{Checked}
 
