@@ -50,13 +50,21 @@ pub fn count(faulty: &[u16], rows: usize, which: Which) -> u16
     faulty[k]
 }
 
+// The mark of a group's parity line.
+pub fn parity_mark(parity_marks: &[u8], rows: usize, which: Which) -> u8
+    requires { ⌜ (numberOf rows which < 1024) × (length (now «parity_marks») ≡ 1024) ⌝ }
+    ensures { λ r. ⌜ r ≡ getD (now («parity_marks» .entry)) (numberOf rows which) 0 ⌝ }
+{
+    let k = number(rows, which);
+    parity_marks[k]
+}
+
 // Whether a group is usable: its parity line is not faulty.
 pub fn is_usable(parity_marks: &[u8], rows: usize, which: Which) -> bool
     requires { ⌜ (numberOf rows which < 1024) × (length (now «parity_marks») ≡ 1024) ⌝ }
     ensures { λ r. ⌜ r ≡ not (eqb (getD (now («parity_marks» .entry)) (numberOf rows which) 0) 4) ⌝ }
 {
-    let k = number(rows, which);
-    parity_marks[k] != 4
+    parity_mark(parity_marks, rows, which) != 4
 }
 
 // The mark of a row's parity line, written.

@@ -22,6 +22,8 @@ use Rattle.scheme.specs.Visit.{Group, isFaulty}
 use Rattle.scheme.specs.Parity.{readParity}
 use Rattle.scheme.specs.Marks.{MarksTell}
 use Rattle.scheme.specs.Readings.{Agreeing}
+use Rattle.scheme.proofs.Marking.{read-as-found}
+use Rattle.rectangle.proofs.Spare.{length-places}
 use Rattle.rectangle.specs.Store.{readUnder, writeUnder, CorrectUnder, isCorrectUnder, lineLayer, bytesAt, placesAt, aloneAt, inBytes}
 use Rattle.rectangle.specs.Before.{readUnderBefore}
 use Rattle.rectangle.specs.Refusals.{parityCorrect}
@@ -71,6 +73,12 @@ pub read-at : (buffer : List ℕ) (n : ℕ) (line : List ℕ) (r : Reading) → 
     → r ≡ inBytes (aloneAt buffer n)
 unfolding aloneAt placesAt
 read-at buffer n line r e f = f ∙ ap reading e ∙ read-as n (bytesAt buffer n)
+
+-- bytes that are read with another mark than 1 read as they are, spare bits apart
+pub read-unchanged : (line : List ℕ) → length line ≡ 70 → (reading line .mark ≡ 1 → ⊥) → lineOf (places line) ≡ reading line .line
+unfolding reading readUnder
+read-unchanged line e d =
+    ap lineOf (sym (read-as-found lineLayer kept marks-tell (lineLayer .address 0) (places line) (length-places line e) d))
 
 -- a group's parity line, read by its bytes
 pub parity-read : (g : Group) (line : List ℕ) → g .parity ≡ places line → reading line ≡ inBytes (readParity lineLayer g)

@@ -19,16 +19,17 @@ use Rattle.scheme.specs.Repair.{Repaired, readAll, faultyCount, agrees, passesF
 use Rattle.scheme.specs.Parity.{readParity, unusable, parityAfter}
 use Rattle.scheme.specs.Demand3.{_∈_}
 use Rattle.scheme.proofs.Width.{read-width}
-use Rattle.rectangle.specs.Store.{lineLayer, bytesAt, linesIn, bufferOf, stride, rowGroup, columnGroup, rowGroups, columnGroups}
+use Rattle.rectangle.specs.Store.{lineLayer, placesAt, bytesAt, linesIn, bufferOf, stride, rowGroup, columnGroup, rowGroups, columnGroups}
 use Rattle.rectangle.specs.Repair.{usedGroups, repairedBy, tableAfter, handedOver, StoreRepaired}
 use Rattle.rectangle.proofs.Spare.{bytes-is}
 use Rattle.rectangle.proofs.Buffer.{length-placesAt}
-use Rattle.rectangle.proofs.LineLayer.{kept}
+use Rattle.linecode.specs.declared.alone.Reading.{Reading}
+use Rattle.rectangle.proofs.LineLayer.{kept, parity-read}
 use Rattle.groups.specs.Lent.{Beside, Tracked, Carried, Rectangular, Room, Numbered, membersOf, groupOf}
 use Rattle.groups.proofs.Numbers.{by-number, any-numbered, members-inside}
 use Rattle.groups.proofs.Held.{held-count}
 use Rattle.groups.proofs.Joined.{first-at, second-at}
-use Rattle.repair.specs.Lent.{RanPasses, Finished, Started, Fresh, startOf, allGroups}
+use Rattle.repair.specs.Lent.{RanPasses, Finished, Started, MarksOf, Fresh, startOf, allGroups}
 use Rattle.repair.proofs.Groups.{foundGroup, startsFrom, found-row, found-column, found-members, starts-zero, map-map, all-groups}
 
 -- ---- no line is read yet
@@ -95,6 +96,21 @@ module _ (rows columns : ℕ) (rt ct rl cl pm₀ pm₁ pm : List ℕ) (rowBytes 
       ∙ ofRows .marked r h
       ∙ ap (λ (g : Group). readParity lineLayer g .mark) (sym (found-row rows columns rt ct r h)))
       (λ c h. ofColumns .marked c h ∙ ap (λ (g : Group). readParity lineLayer g .mark) (sym (found-column rows columns rt ct c)))
+
+  -- each table's marks, by its bytes
+  pub row-marks : MarksOf rt 0 rows pm
+  unfolding placesAt
+  row-marks r h =
+      ap (λ (i : ℕ). getD pm i 0) (zero-add r)
+      ∙ ofColumns .before r h
+      ∙ ap (λ (i : ℕ). getD pm₁ i 0) (sym (zero-add r))
+      ∙ ofRows .marked r h
+      ∙ sym (ap (λ (r : Reading). r .mark) (parity-read (rowGroup columns rt r) (bytesAt rt r) refl))
+
+  pub column-marks : MarksOf ct rows columns pm
+  unfolding placesAt
+  column-marks c h =
+      ofColumns .marked c h ∙ sym (ap (λ (r : Reading). r .mark) (parity-read (columnGroup rows columns ct c) (bytesAt ct c) refl))
 
 -- ---- buffers as long as they were
 pub same-rect : (rows columns : ℕ) (out marks out′ marks′ : List ℕ) → Rectangular rows columns out marks → length out′ ≡ length out

@@ -8,6 +8,7 @@ use lib.ListN.{getD}
 use Rattle.gf2.specs.Word.{Word, _⊕_, zeros}
 use Rattle.linecode.specs.Places.{linePlaces, lineOf}
 use Rattle.linecode.specs.Code.{upFrom}
+use Rattle.linecode.specs.Entry.{reading}
 use Rattle.scheme.specs.Layer.{readLine}
 use Rattle.scheme.specs.Visit.{Group, State, lineAt, sum}
 use Rattle.scheme.specs.Repair.{readAll, passesFrom, answer}
@@ -26,6 +27,10 @@ pub record Started (g : ℕ → Group) (b total : ℕ) (lacks parityMarks₀ par
   pub starts : (k : ℕ) → k < total → bytesAt lacks k ≡ lineOf (startOf (g k))
   pub marked : (k : ℕ) → k < total → getD parityMarks (b + k) 0 ≡ readParity lineLayer (g k) .mark
   pub before : (k : ℕ) → k < b → getD parityMarks k 0 ≡ getD parityMarks₀ k 0
+
+-- from number b on stand the marks with which a table's parity lines read alone
+abbrev pub MarksOf : List ℕ → ℕ → ℕ → List ℕ → Type 0
+MarksOf table b total parityMarks = (k : ℕ) → k < total → getD parityMarks (b + k) 0 ≡ reading (bytesAt table k) .mark
 
 -- the difference of each unusable group is the sum of its lines
 abbrev pub Fresh : (ℕ → Group) → ℕ → List ℕ → State → Type 0

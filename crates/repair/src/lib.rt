@@ -195,8 +195,16 @@ fn repair_fitting(
         columns,
     );
     let whole = repaired.answer != 11;
-    parity::hand_over_rows(&table, rows, row_table, row_out, whole);
-    parity::hand_over_columns(&table, columns, column_table, column_out, whole);
+    parity::hand_over_rows(&table, rows, row_table, row_out, &parity_marks, whole);
+    parity::hand_over_columns(
+        &table,
+        rows,
+        columns,
+        column_table,
+        column_out,
+        &parity_marks,
+        whole,
+    );
     repaired
 }
 

@@ -5,14 +5,17 @@ ghost use mathlib.Core.Bool.{cond, _&&_};
 ghost use Prim.Native.Nat.{ℕ, _*_, _≤_};
 ghost use lib.Dec.{eqb};
 ghost use lib.ListN.{length, replicate};
+ghost use Rattle.linecode.specs.Entry.{reading};
 ghost use Rattle.scheme.specs.Visit.{State};
 ghost use Rattle.scheme.specs.Repair.{faultyCount};
 ghost use Rattle.rectangle.specs.Store.{lineLayer, rowGroup, columnGroup, rowGroups, columnGroups};
 ghost use Rattle.rectangle.specs.Repair.{tableAfter};
 ghost use Rattle.line_table.specs.Table.{lineTable};
-ghost use Rattle.repair.specs.Lent.{Started, Fresh};
+ghost use Rattle.repair.specs.Lent.{Started, MarksOf, Fresh};
 use groups::tracked;
+use groups::tracked::Which;
 use linecode::alone::Reading;
+use linecode::place;
 use rectangle::lines;
 use rectangle::lines::ColumnIndex;
 use rectangle::lines::RowIndex;
@@ -88,16 +91,31 @@ fn made_afresh(mark: u8, whole: bool) -> bool
     false
 }
 
-// The rows' parity lines are handed over: as read again, but for those made afresh, which are their groups' differences already.
+// A parity line as it was read with this mark: only one that was rewritten is read again, the others read as found.
+fn read_again(table: &[u64; 4096], found: [u8; 70], mark: u8) -> [u8; 70]
+    requires { ⌜ (now table ≡ lineTable) × (mark ≡ reading found .mark) ⌝ }
+    ensures { λ r. ⌜ r ≡ reading found .line ⌝ }
+{
+    if mark == 1 {
+        let read = reading::read(table, found);
+        return read.line;
+    }
+    place::clear_spare(found)
+}
+
+// The rows' parity lines are handed over: as read, but for those made afresh, which are their groups' differences already.
 pub fn hand_over_rows(
     table: &[u64; 4096],
     rows: usize,
     row_table: &[u8],
     row_lacks: &mut [u8],
+    parity_marks: &[u8],
     whole: bool,
 )
     requires table { ⌜ now table ≡ lineTable ⌝ }
-    requires room { ⌜ (rows ≤ 512) × (length (now «row_table») ≡ rows * 70) × (length (now «row_lacks») ≡ rows * 70) ⌝ }
+    requires room { ⌜ (rows ≤ 512) × (length (now «row_table») ≡ rows * 70) × (length (now «row_lacks») ≡ rows * 70)
+        × (length (now «parity_marks») ≡ 1024) ⌝ }
+    requires marked { ⌜ MarksOf (now «row_table») 0 rows (now «parity_marks») ⌝ }
     ensures { λ _. ⌜ ((columns : ℕ) (s : State) → whole ≡ eqb (faultyCount s) 0
         → Fresh (rowGroup columns (now («row_table» .entry))) rows (now («row_lacks» .entry)) s
         → now («row_lacks» .exit) ≡ tableAfter lineLayer s (rowGroups rows columns (now («row_table» .entry)))) ⌝ }
@@ -105,9 +123,9 @@ pub fn hand_over_rows(
     let mut r = 0;
     while r < rows {
         let row = RowIndex(r);
-        let read = reading::read(table, lines::row_parity(row_table, row));
-        if !made_afresh(read.mark, whole) {
-            let parity = read.line;
+        let mark = tracked::parity_mark(parity_marks, rows, Which::Row(row));
+        if !made_afresh(mark, whole) {
+            let parity = read_again(table, lines::row_parity(row_table, row), mark);
             lines::put_row_parity(row_lacks, row, parity);
         }
         r += 1;
@@ -117,23 +135,27 @@ pub fn hand_over_rows(
 // And the columns'.
 pub fn hand_over_columns(
     table: &[u64; 4096],
+    rows: usize,
     columns: usize,
     column_table: &[u8],
     column_lacks: &mut [u8],
+    parity_marks: &[u8],
     whole: bool,
 )
     requires table { ⌜ now table ≡ lineTable ⌝ }
-    requires room { ⌜ (columns ≤ 512) × (length (now «column_table») ≡ columns * 70) × (length (now «column_lacks») ≡ columns * 70) ⌝ }
-    ensures { λ _. ⌜ ((rows : ℕ) (s : State) → whole ≡ eqb (faultyCount s) 0
+    requires room { ⌜ (rows ≤ 512) × (columns ≤ 512) × (length (now «column_table») ≡ columns * 70)
+        × (length (now «column_lacks») ≡ columns * 70) × (length (now «parity_marks») ≡ 1024) ⌝ }
+    requires marked { ⌜ MarksOf (now «column_table») rows columns (now «parity_marks») ⌝ }
+    ensures { λ _. ⌜ ((s : State) → whole ≡ eqb (faultyCount s) 0
         → Fresh (columnGroup rows columns (now («column_table» .entry))) columns (now («column_lacks» .entry)) s
         → now («column_lacks» .exit) ≡ tableAfter lineLayer s (columnGroups rows columns (now («column_table» .entry)))) ⌝ }
 {
     let mut c = 0;
     while c < columns {
         let column = ColumnIndex(c);
-        let read = reading::read(table, lines::column_parity(column_table, column));
-        if !made_afresh(read.mark, whole) {
-            let parity = read.line;
+        let mark = tracked::parity_mark(parity_marks, rows, Which::Column(column));
+        if !made_afresh(mark, whole) {
+            let parity = read_again(table, lines::column_parity(column_table, column), mark);
             lines::put_column_parity(column_lacks, column, parity);
         }
         c += 1;

@@ -2,15 +2,17 @@
 use mathlib.Core.Path.{_≡_, sym, ap, _∙_, subst}
 use mathlib.Core.Logic.{_⊎_, inl, inr}
 use mathlib.Core.List.{List, [], _∷_}
-use Prim.Native.Nat.{ℕ, zero, suc, _≤_}
+use Prim.Native.Nat.{ℕ, zero, suc, _≤_, _<_}
+use native.Mathlib.Decide.{ℕ-discrete}
 use native.Mathlib.Omega.{arith}
-use lib.ListN.{getD, length-map, List·getD-map}
+use lib.ListN.{length, getD, length-map, List·getD-map}
 use Rattle.gf2.specs.Word.{Word}
 use Rattle.scheme.specs.Layer.{Cell, Reading, Layer, readLine, Promises}
 use Rattle.scheme.specs.Visit.{Group, State, cellAt}
 use Rattle.scheme.specs.Repair.{readAll, repair, marksOf}
 use Rattle.scheme.specs.Marks.{RepairMarks, MarkTells, MarksTell, RepairMarksTell}
 use Rattle.scheme.specs.Demand3.{wordAt}
+use Rattle.scheme.proofs.Words.{distance-self}
 use Rattle.scheme.proofs.Every.{Every, every-passes}
 use Rattle.scheme.proofs.Stays.{first-reading-at, repair-stays, repair-length}
 
@@ -81,3 +83,21 @@ repair-marks-tell layer promises tells gs found n h l = go (promises .marks (lay
           clean = (λ e. let z : ⊥ = omega arith in absurd z, λ c. let z : ⊥ = omega (arith, alone .clean .1 c) in absurd z);
           rewritten = (λ e. let z : ⊥ = omega arith in absurd z, λ p. absurd (p .0 four));
         }
+
+-- a line with another mark than 1 is read as found
+pub read-as-found : (layer : Layer) → Promises layer → MarksTell layer → (a : ℕ) (found : Word) → length found ≡ layer .width
+    → (layer .read a found .mark ≡ 1 → ⊥) → layer .read a found .line ≡ found
+read-as-found layer promises tell a found e d = go (promises .marks a found)
+  where
+    go : (layer .read a found .mark ≤ 1) ⊎ (layer .read a found .mark ≡ 4) → layer .read a found .line ≡ found
+    go (inr faulty) = promises .kept a found e faulty
+    go (inl h) =
+        let clean : layer .read a found .mark ≡ 0 = omega (arith, at-most h) in
+        promises .corrects a found found (tell a found e .clean .0 clean) e (omega (arith, distance-self found)) .gives
+      where
+        at-most : layer .read a found .mark ≤ 1 → layer .read a found .mark < 1
+        at-most l = go' (ℕ-discrete (layer .read a found .mark) 1)
+          where
+            go' : Dec (layer .read a found .mark ≡ 1) → layer .read a found .mark < 1
+            go' (yes one) = absurd (d one)
+            go' (no n) = omega arith

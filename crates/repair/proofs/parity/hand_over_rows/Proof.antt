@@ -1,16 +1,19 @@
 -- `repair::parity::hand_over_rows` meets its contract: after r turns the first r parity lines are handed over.
-use mathlib.Core.Path.{_≡_, sym, ap, _∙_}
+use mathlib.Core.Path.{_≡_, refl, sym, ap, _∙_}
 use mathlib.Core.Logic.{⊎-elim}
+use mathlib.Core.Bool.{_&&_}
+use mathlib.Core.List.{List}
 use Prim.Native.Nat.{ℕ, _-_, _*_}
+use native.Mathlib.Nat.{zero-add}
 use native.Mathlib.Omega.{arith}
 use borrow.Author.Tests.{not-true, not-false}
 use lib.Dec.{eqb}
-use lib.ListN.{length}
-use Rattle.linecode.specs.Places.{places}
+use lib.ListN.{length, getD}
+use Rattle.linecode.specs.Entry.{reading}
 use Rattle.scheme.specs.Visit.{State}
 use Rattle.scheme.specs.Repair.{faultyCount}
 use Rattle.scheme.specs.Parity.{parityAfter}
-use Rattle.rectangle.specs.Store.{lineLayer, placesAt, rowGroup}
+use Rattle.rectangle.specs.Store.{lineLayer, bytesAt, placesAt, rowGroup}
 use Rattle.rectangle.proofs.LineLayer.{parity-read}
 use Rattle.groups.proofs.Joined.{table-line}
 use Rattle.repair.specs.Lent.{Fresh}
@@ -20,67 +23,77 @@ use Rattle.repair.proofs.parity.hand_over_rows.Statement.{statement}
 use Rattle.repair.proofs.parity.hand_over_rows.Tie as tie
 
 abbrev Inv-loop : tie.InvT-loop
-Inv-loop table rows row-table row-lacks₀ whole r₀ row-lacks r =
+Inv-loop table rows row-table row-lacks₀ parity-marks whole r₀ row-lacks r =
     (length row-lacks ≡ rows * 70)
     × ((columns : ℕ) (s : State) → whole ≡ eqb (faultyCount s) 0 → Fresh (rowGroup columns row-table) rows row-lacks₀ s
     → Filled (λ k. parityAfter lineLayer s (rowGroup columns row-table k)) rows row-lacks₀ row-lacks r)
 
 abbrev μ-loop : tie.MeasureT-loop
-μ-loop table rows row-table row-lacks₀ whole r₀ row-lacks r = rows - r
+μ-loop table rows row-table row-lacks₀ parity-marks whole r₀ row-lacks r = rows - r
 
 loop-holds : tie.Need-loop-holds Inv-loop μ-loop
-loop-holds c = (c .before .before .pre .1 .2, λ columns s e fresh. filled-start _ _ _ (c .before .before .pre .1 .2))
+loop-holds c = (c .before .before .before .pre .1 .0 .2, λ columns s e fresh. filled-start _ _ _ (c .before .before .before .pre .1 .0 .2))
 
-row-parity-requires : tie.Need-row-parity-requires Inv-loop μ-loop
-row-parity-requires c κs = table-line _ _ _ (c .before .before .before .before .pre .1 .1) (c .loop-test .taken)
-
-read-requires : tie.Need-read-requires Inv-loop μ-loop
-read-requires c κs = c .before .before .before .before .before .pre .0
+parity-mark-requires : tie.Need-parity-mark-requires Inv-loop μ-loop
+parity-mark-requires c κs = (omega (arith, c .before .before .before .before .before .pre .1 .0 .0, c .loop-test .taken), c .before .before .before .before .before .pre .1 .0 .3)
 
 made-afresh-requires : tie.Need-made-afresh-requires Inv-loop μ-loop
 made-afresh-requires c κs = tt
+
+-- the mark is that with which the parity line reads alone
+marked : (c : tie.After-parity-mark Inv-loop μ-loop)
+    → c .parity-mark .result ≡ reading (bytesAt (c .before .before .before .before .before .before .args .row-table .now) (c .before .before .loop .r)) .mark
+marked c = c .parity-mark .ensures ∙ ap (λ (k : ℕ). getD (c .before .before .before .before .before .before .args .parity-marks .now) k 0) (sym (zero-add (c .before .before .loop .r))) ∙ c .before .before .before .before .before .before .pre .1 .1 _ (c .before .loop-test .taken)
+
+row-parity-requires : tie.Need-row-parity-requires Inv-loop μ-loop
+row-parity-requires c κs = table-line _ _ _ (c .before .before .before .before .before .before .before .before .pre .1 .0 .1) (c .before .before .before .loop-test .taken)
+
+read-again-requires : tie.Need-read-again-requires Inv-loop μ-loop
+read-again-requires c κs =
+    (c .before .before .before .before .before .before .before .before .before .pre .0, marked (c .before .before .before) ∙ ap (λ (l : List ℕ). reading l .mark) (sym (c .row-parity .ensures)))
 
 put-row-parity-requires : tie.Need-put-row-parity-requires Inv-loop μ-loop
 put-row-parity-requires c κs = table-line _ _ _ (c .before .before .before .before .before .before .before .loop .inv .0) (c .before .before .before .before .before .before .loop-test .taken)
 
 add-r : tie.Need-add-r Inv-loop μ-loop
-add-r c = omega (arith, c .before .before .before .before .before .before .before .before .pre .1 .0, c .before .before .before .before .loop-test .taken)
+add-r c = omega (arith, c .before .before .before .before .before .before .before .before .pre .1 .0 .0, c .before .before .before .loop-test .taken)
 
 loop-less : tie.Need-loop-less Inv-loop μ-loop
-loop-less c = omega (arith, c .before .before .before .before .loop-test .taken)
+loop-less c = omega (arith, c .before .before .before .loop-test .taken)
 
 loop-again : tie.Need-loop-again Inv-loop μ-loop
 unfolding placesAt
 loop-again c =
     let a = c .before .before .before .before .before .before .before .before .args in
-    let here = c .before .before .before .before .before .loop in
-    let more = c .before .before .before .before .loop-test .taken in
-    let made = c .before .made-afresh .ensures in
+    let here = c .before .before .before .before .loop in
+    let more = c .before .before .before .loop-test .taken in
+    let found = bytesAt (a .row-table .now) (here .r) in
+    let made = ap (λ (m : ℕ). eqb m 4 && a .whole) (sym (marked (c .before .before))) ∙ sym (c .before .made-afresh .ensures) in
     ⊎-elim
     (λ w. (
-      ap length (w .6) ∙ w .3 .kept .0 ∙ here .inv .0,
+      ap length (w .7) ∙ w .4 .kept .0 ∙ here .inv .0,
       λ columns s e fresh.
           let g = rowGroup columns (a .row-table .now) (here .r) in
-          let read = c .before .before .read .ensures ∙ parity-read g _ (ap places (sym (c .before .before .before .row-parity .ensures))) in
-          filled-put _ _ _ _ _ (here .inv .1 columns s e fresh) _ _ more (w .6 ∙ w .3 .ensures)
-          (handed-read g _ read s (a .whole) e (sym made ∙ not-true _ (w .0 .taken))),
+          filled-put _ _ _ _ _ (here .inv .1 columns s e fresh) _ _ more (w .7 ∙ w .4 .ensures)
+          (w .2 .ensures
+          ∙ ap (λ (l : List ℕ). reading l .line) (w .1 .ensures)
+          ∙ handed-read g (reading found) (parity-read g found refl) s (a .whole) e (made ∙ not-true _ (w .0 .taken))),
     ))
     (λ w. (
       ap length (w .1) ∙ here .inv .0,
       λ columns s e fresh.
           let g = rowGroup columns (a .row-table .now) (here .r) in
-          let read = c .before .before .read .ensures ∙ parity-read g _ (ap places (sym (c .before .before .before .row-parity .ensures))) in
           filled-kept _ _ _ _ _ (here .inv .1 columns s e fresh) _ more (w .1)
-          (handed-afresh g _ read s (a .whole) e (sym made ∙ not-false _ (w .0 .left)) _ _ (fresh (here .r) more)),
+          (handed-afresh g (reading found) (parity-read g found refl) s (a .whole) e (made ∙ not-false _ (w .0 .left)) _ _ (fresh (here .r) more)),
     ))
     (c .if1 .came)
 
 same-length : tie.Need-same-length Inv-loop μ-loop
-same-length c = c .before .loop .inv .0 ∙ sym (c .before .before .before .before .pre .1 .2)
+same-length c = c .before .loop .inv .0 ∙ sym (c .before .before .before .before .before .pre .1 .0 .2)
 
 returns : tie.Need-returns Inv-loop μ-loop
 returns c =
-    let a = c .before .before .before .before .args in
+    let a = c .before .before .before .before .before .args in
     λ columns s e fresh.
     table-after s (rowGroup columns (a .row-table .now)) (a .rows) _ (filled-table _ _ _ _ _ (c .before .loop .inv .1 columns s e fresh) (c .loop-test .left))
 
@@ -91,9 +104,10 @@ hand-over-rows-spec =
     Inv-loop
     μ-loop
     loop-holds
-    row-parity-requires
-    read-requires
+    parity-mark-requires
     made-afresh-requires
+    row-parity-requires
+    read-again-requires
     put-row-parity-requires
     add-r
     loop-less
