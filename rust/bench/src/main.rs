@@ -47,9 +47,9 @@ const TURNS: usize = 20;
 
 /// Each repair of a large store: its name, answer, passes and bars.
 const REPAIRS: [(&str, u32, u64, &[Bar]); 4] = [
-    ("clean", 0, 0, &[Bar::Peer(0.85), Bar::Copies(6.0)]),
-    ("lightly hurt", 0, 1, &[Bar::Peer(0.85)]),
-    ("hurt past repair", 11, 3, &[Bar::Peer(0.85)]),
+    ("clean", 0, 0, &[Bar::Peer(0.88), Bar::Copies(6.0)]),
+    ("lightly hurt", 0, 1, &[Bar::Peer(0.88)]),
+    ("hurt past repair", 11, 3, &[Bar::Peer(0.88)]),
     ("chained", 0, 256, &[Bar::Peer(1.0)]),
 ];
 
