@@ -12,7 +12,8 @@ use Rattle.scheme.specs.Parity.{readParity, unusable, noLines}
 use Rattle.scheme.specs.Demand3.{_∈_}
 use Rattle.rectangle.specs.Store.{lineLayer, bytesAt, placesAt, rowGroups, columnGroups, groups}
 use Rattle.rectangle.specs.Repair.{Buffers, handsOver}
-use Rattle.demands.specs.Demands.{Rectangle, count, repairOf, groupsOf, EqualTables, SameShape, TurnsAmong, Order, DamagedSo, damage, Agrees}
+use Rattle.demands.specs.Demands.{Rectangle, count, repairOf, groupsOf, EqualTables}
+use Rattle.demands.specs.Demands.{SameShape, TurnsAmong, Order, DamagedSo, damage, Agrees}
 
 -- ---- "accepted ones as read, faulty ones as found unless made afresh": the table of some groups, as it is handed over beside lines
 pub record TableGiven (gs : List Group) (lines table : List ℕ) (answer : ℕ) : Type 0 where

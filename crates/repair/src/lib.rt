@@ -89,7 +89,8 @@ fn answer_after(
     0
 }
 
-// The steps, from differences that are the parity lines as read, or zeros where these are faulty: the first reading, the passes, the answer.
+// The steps, from differences that are the parity lines as read, or zeros where these are faulty: the first reading, the passes, the
+// answer.
 fn steps(
     table: &[u64; 4096],
     found: &[u8],

@@ -74,7 +74,8 @@ samples =
     ∷ leaves 2 (last ∷ clean ∷ clean ∷ clean ∷ []) (0 ∷ 0 ∷ 0 ∷ 0 ∷ []) 0 12
     ∷ []
 
--- cases without a star: the marks of before, and one at which a plausible and false way of repair would give other marks. The mismatch is worked out once in a visit:
+-- cases without a star: the marks of before, and one at which a plausible and false way of repair would give other marks. The mismatch is
+-- worked out once in a visit:
 -- of {1, 3, 4} line 0 takes place 1; worked out again it would be {0, 3, 4}, and line 1 would be mended by trial too. Then request Q-2's:
 -- a change's own row and column, and no other
 abbrev pub cases : List Sample

@@ -85,18 +85,19 @@ fn refusal(
     if !sides_fit(rows, columns) {
         return Some(answer::SIDES);
     }
-    let all_lines = rows * columns * LINE_BYTES;
-    if lines != all_lines {
-        return Some(answer::LINES);
-    }
+    let count = rows * columns;
     let right = [rows * LINE_BYTES, columns * LINE_BYTES];
-    if tables != right || [out.row_table.len(), out.column_table.len()] != right {
-        return Some(answer::TABLE);
-    }
-    if out.lines.len() != all_lines || out.marks.len() != rows * columns {
-        return Some(answer::BUFFER);
-    }
-    None
+    let written = [out.row_table.len(), out.column_table.len()];
+    // In the order of the list: each is so, or its number is the refusal.
+    let tests = [
+        (lines == count * LINE_BYTES, answer::LINES),
+        (tables == right, answer::TABLE),
+        (written == right, answer::TABLE),
+        (out.lines.len() == count * LINE_BYTES, answer::BUFFER),
+        (out.marks.len() == count, answer::BUFFER),
+    ];
+    let first = tests.iter().find(|(passed, _)| !passed);
+    first.map(|&(_, refusal)| refusal)
 }
 
 /// A row or a column.
