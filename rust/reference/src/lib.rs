@@ -1,5 +1,5 @@
 //! A second implementation of the caption store, written from its rules alone:
-//! document 01, with requests of document 02.
+//! document 01, with requests of document 02.
 //!
 //! It is made to be read beside that document, not to be fast: a line is a
 //! row of 553 truth values, a check is a long division, and repair follows
@@ -13,6 +13,7 @@
 //! | "One line, 70 bytes" | [`line`](mod@line) |
 //! | "The rectangle" | [`rectangle`] |
 //! | "Repair", as Q-3 changes it | [`repair`](mod@repair) |
+//! | Request Q-4, one line wanted | [`lookup`] |
 //! | "Store file" | [`file`](mod@file) |
 //! | "Turned back, in checking order", as change it | [`answer`] |
 //! | The marks, as Q-1 changes them | [`mark`] |
@@ -50,6 +51,7 @@ pub mod draw;
 pub mod file;
 pub mod hamming;
 pub mod line;
+pub mod lookup;
 pub mod polynomial;
 pub mod random;
 pub mod rectangle;
@@ -57,6 +59,7 @@ pub mod repair;
 
 pub use file::{StoreFile, check_file, storecheck};
 pub use line::{ReadLine, read_line, write_line};
+pub use lookup::{One, read_one};
 pub use rectangle::{Change, change_line, make_tables};
 pub use repair::{Out, Repair, repair};
 
@@ -116,7 +119,7 @@ pub mod answer {
     pub const COLUMN_PARITY: u32 = 14;
     /// A line to be read alone, changed or summed is faulty.
     pub const FAULTY: u32 = 10;
-    /// Faulty lines are left after the last pass.
+    /// Faulty lines are left after the last pass; the one line wanted is.
     pub const LEFT: u32 = 11;
     /// No line is faulty, but some accepted parity line differs from the repaired
     /// lines'.
@@ -141,4 +144,14 @@ pub mod mark {
     pub const REBUILT: u8 = 3;
     /// Faulty.
     pub const FAULTY: u8 = 4;
+}
+
+/// The last step taken for one line, by request Q-4's numbers.
+pub mod step {
+    /// The line was read alone.
+    pub const ALONE: u32 = 1;
+    /// Its row was visited.
+    pub const ROW: u32 = 2;
+    /// The whole rectangle was repaired.
+    pub const REPAIR: u32 = 3;
 }

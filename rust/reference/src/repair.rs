@@ -4,7 +4,7 @@ use crate::line::{self, Line, exclusive_or};
 use crate::rectangle::{all_places, column_members, row_members, sides_fit, sum, write_all};
 use crate::{LINE_BYTES, answer, mark};
 
-/// The buffers that repair writes.
+/// The buffers that repair writes, and that a read of one line borrows.
 pub struct Out<'a> {
     /// The lines.
     pub lines: &'a mut [u8],
@@ -73,9 +73,9 @@ pub fn repair(
     Repair { answer, passes }
 }
 
-/// The first refusal that fits, given the lengths of the lines and the tables
-/// read.
-fn refusal(
+/// The first refusal of a repair that fits, given the lengths of the lines and
+/// the tables read.
+pub(crate) fn refusal(
     rows: usize,
     columns: usize,
     lines: usize,
@@ -101,7 +101,7 @@ fn refusal(
 }
 
 /// A row or a column.
-struct Group {
+pub(crate) struct Group {
     /// The numbers of its lines, rising.
     members: Vec<usize>,
     /// Its parity line as it reads alone; as found where that is faulty.
@@ -111,29 +111,33 @@ struct Group {
 }
 
 impl Group {
-    /// The groups of a table, each with its parity line read alone.
+    /// The group of these lines, its parity line read alone.
+    pub(crate) fn new(members: Vec<usize>, found: &[u8]) -> Group {
+        let (parity, mark) = line::read_alone(&line::places(found));
+        Group {
+            members,
+            parity,
+            usable: mark != mark::FAULTY,
+        }
+    }
+
+    /// The groups of a table.
     fn all(table: &[u8], members: impl Fn(usize) -> Vec<usize>) -> Vec<Group> {
-        let group = |(n, found): (usize, &Line)| {
-            let (parity, mark) = line::read_alone(found);
-            Group {
-                members: members(n),
-                parity,
-                usable: mark != mark::FAULTY,
-            }
-        };
-        all_places(table).iter().enumerate().map(group).collect()
+        let found = table.chunks_exact(LINE_BYTES).enumerate();
+        let group = |(n, found)| Group::new(members(n), found);
+        found.map(group).collect()
     }
 }
 
 /// The lines that repair holds, and the mark of each.
-struct Held {
-    lines: Vec<Line>,
-    marks: Vec<u8>,
+pub(crate) struct Held {
+    pub(crate) lines: Vec<Line>,
+    pub(crate) marks: Vec<u8>,
 }
 
 impl Held {
     /// Every line read alone.
-    fn read_alone(lines: &[u8]) -> Held {
+    pub(crate) fn read_alone(lines: &[u8]) -> Held {
         let (lines, marks) = all_places(lines).iter().map(line::read_alone).unzip();
         Held { lines, marks }
     }
@@ -154,7 +158,7 @@ impl Held {
     }
 
     /// Visits a group; gives how many lines it mended.
-    fn visit(&mut self, group: &Group) -> usize {
+    pub(crate) fn visit(&mut self, group: &Group) -> usize {
         if !group.usable {
             return 0;
         }

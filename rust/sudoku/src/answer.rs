@@ -1,4 +1,4 @@
-//! Answers and marks.
+//! Answers, marks and steps.
 
 use std::error::Error;
 use std::fmt;
@@ -46,8 +46,8 @@ pub enum Answer {
     },
     /// 10: a line to be read alone, changed or summed into tables is faulty.
     Faulty,
-    /// 11: faulty lines are left after the last pass of a repair. They are
-    /// given as found.
+    /// 11: faulty lines are left after the last pass of a repair, or the one
+    /// line wanted is. They are given as found.
     Left,
     /// 12: no line is faulty, but some parity line that was accepted differs
     /// from that of the repaired lines. Trust no line: some may be wrong, and
@@ -208,6 +208,48 @@ impl Mark {
             Mark::Rebuilt => 3,
             Mark::Faulty => 4,
             Mark::Other(number) => number,
+        }
+    }
+}
+
+/// The last step taken for one line that was wanted: each is taken only where
+/// the one before left the line faulty.
+#[derive(Clone, Copy, Debug, PartialEq, Eq, Hash)]
+pub enum Step {
+    /// 1: the line was read alone.
+    Alone,
+    /// 2: its row was visited.
+    Row,
+    /// 3: the whole store was repaired.
+    Repair,
+    /// A number that this crate doesn't know.
+    Other(u32),
+}
+
+impl Step {
+    /// The step with this number.
+    ///
+    /// ```
+    /// use sudoku::Step;
+    /// assert_eq!(Step::from_number(2), Step::Row);
+    /// assert_eq!(Step::from_number(2).number(), 2);
+    /// ```
+    pub fn from_number(number: u32) -> Step {
+        match number {
+            1 => Step::Alone,
+            2 => Step::Row,
+            3 => Step::Repair,
+            other => Step::Other(other),
+        }
+    }
+
+    /// This step's number.
+    pub fn number(self) -> u32 {
+        match self {
+            Step::Alone => 1,
+            Step::Row => 2,
+            Step::Repair => 3,
+            Step::Other(number) => number,
         }
     }
 }

@@ -60,6 +60,29 @@ mod declared {
             column_out_len: usize,
             passes: *mut u64,
         ) -> u32;
+        pub fn sudoku_read_one(
+            rows: usize,
+            columns: usize,
+            lines: *const u8,
+            lines_len: usize,
+            row_table: *const u8,
+            row_len: usize,
+            column_table: *const u8,
+            column_len: usize,
+            n: usize,
+            out: *mut u8,
+            out_len: usize,
+            marks: *mut u8,
+            marks_len: usize,
+            row_out: *mut u8,
+            row_out_len: usize,
+            column_out: *mut u8,
+            column_out_len: usize,
+            line: *mut u8,
+            line_len: usize,
+            mark: *mut u8,
+            step: *mut u32,
+        ) -> u32;
     }
 }
 
@@ -145,7 +168,8 @@ pub fn change_line(
     (answer, number)
 }
 
-/// The buffers that repair writes, each of any length.
+/// The buffers that repair writes and that a read of one line borrows to work
+/// in, each of any length.
 pub struct Out<'a> {
     /// The lines: C's `out`.
     pub lines: &'a mut [u8],
@@ -190,4 +214,49 @@ pub fn repair(
         )
     };
     (answer, passes)
+}
+
+/// Reads line `n` alone, then by its row, then by the whole repair, until it is
+/// whole; gives the answer, the line's mark and the last step taken.
+///
+/// After the answers 0 and 11 the work buffers are all zero.
+#[allow(clippy::too_many_arguments)]
+pub fn read_one(
+    rows: usize,
+    columns: usize,
+    lines: &[u8],
+    row_table: &[u8],
+    column_table: &[u8],
+    n: usize,
+    work: Out,
+    line: &mut [u8],
+) -> (u32, u8, u32) {
+    let (mut mark, mut step) = (0xEE, u32::MAX);
+    // SAFETY: see above.
+    let answer = unsafe {
+        declared::sudoku_read_one(
+            rows,
+            columns,
+            lines.as_ptr(),
+            lines.len(),
+            row_table.as_ptr(),
+            row_table.len(),
+            column_table.as_ptr(),
+            column_table.len(),
+            n,
+            work.lines.as_mut_ptr(),
+            work.lines.len(),
+            work.marks.as_mut_ptr(),
+            work.marks.len(),
+            work.row_table.as_mut_ptr(),
+            work.row_table.len(),
+            work.column_table.as_mut_ptr(),
+            work.column_table.len(),
+            line.as_mut_ptr(),
+            line.len(),
+            &mut mark,
+            &mut step,
+        )
+    };
+    (answer, mark, step)
 }

@@ -4,13 +4,15 @@
 //! 31-bit check and ten bits that find one damaged bit, the Hamming bits. A
 //! [`Store`] holds rows × columns of such lines and a parity line for each row
 //! and column, and [`Store::repair`] mends damaged lines from these, and the
-//! parity lines from the lines. The work is done by the static library
-//! `libcapi.a`, whose functions are proved to follow the store's rules; this
-//! crate is a safe way to call it.
+//! parity lines from the lines. [`Store::read_one`] gives one line as repair
+//! would, mostly without repairing the rest. The work is done by the static
+//! library `libcapi.a`, whose functions are proved to follow the store's rules;
+//! this crate is a safe way to call it.
 //!
 //! Nothing here panics on bad input: what is refused comes back as an
-//! [`Answer`]. Calls keep no state, so threads may call at once; repair needs
-//! less than 48 kB of a thread's stack, making tables about 110 kB.
+//! [`Answer`]. Calls keep no state, so threads may call at once; repair and a
+//! read of one line need less than 48 kB of a thread's stack, making tables
+//! about 110 kB.
 //!
 //! ```
 //! use sudoku::{Mark, Store};
@@ -40,6 +42,10 @@
 //! - After [`Answer::Done`] lines and tables of a repair are those written, if
 //!   no line and no parity line had more than five damaged bits. The
 //!   repository's README says what holds beyond that.
+//! - A line that [`Store::read_one`] gives with another mark than
+//!   [`Mark::Faulty`] is a correct line, and within the same bounds the one
+//!   written. That lines and tables disagree ([`Answer::Differs`]) it doesn't
+//!   tell.
 //! - Lines and tables of zero bytes are a valid store, the one that
 //!   [`Store::new`] gives: cleared memory can't be told from empty captions.
 //! - After [`Answer::RowParity`] or [`Answer::ColumnParity`], which only a change
@@ -60,9 +66,9 @@ pub mod c;
 mod line;
 mod store;
 
-pub use answer::{Answer, Mark};
+pub use answer::{Answer, Mark, Step};
 pub use line::{Read, read_line, write_line};
-pub use store::{Repaired, Store};
+pub use store::{One, Repaired, Store};
 
 /// Data bytes of one line.
 pub const DATA_BYTES: usize = 64;

@@ -18,14 +18,15 @@ pub fn write_line(data: &[u8; DATA_BYTES]) -> [u8; LINE_BYTES] {
     line
 }
 
-/// A line as it reads alone.
+/// A line that was read, and its mark.
 #[derive(Clone, Copy, Debug, PartialEq, Eq)]
 pub struct Read {
     /// The line read, or the line as found if it is faulty; its spare bits
     /// are 0.
     pub line: [u8; LINE_BYTES],
-    /// [`Mark::Clean`] if the line was correct as found, [`Mark::Rewritten`] if
-    /// it was mended, or [`Mark::Faulty`].
+    /// Of a line read alone: [`Mark::Clean`] if it was correct as found,
+    /// [`Mark::Rewritten`] if it was mended, or [`Mark::Faulty`]. Of one that
+    /// its row or a repair mended: [`Mark::Trial`] or [`Mark::Rebuilt`].
     pub mark: Mark,
 }
 
@@ -37,7 +38,8 @@ impl Read {
         data
     }
 
-    /// Whether the line is faulty: two or more of its bits are damaged.
+    /// Whether the line is faulty: two or more of its bits are damaged, and they
+    /// couldn't be mended.
     pub fn is_faulty(&self) -> bool {
         self.mark == Mark::Faulty
     }

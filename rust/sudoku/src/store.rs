@@ -1,7 +1,8 @@
 //! A store that owns its lines and both parity tables.
 
 use crate::{
-    Answer, DATA_BYTES, GREATEST_SIDE, LEAST_SIDE, LINE_BYTES, Mark, Read, c, read_line, write_line,
+    Answer, DATA_BYTES, GREATEST_SIDE, LEAST_SIDE, LINE_BYTES, Mark, Read, Step, c, read_line,
+    write_line,
 };
 
 /// Rows × columns of lines, and a parity line for each row and each column.
@@ -32,6 +33,15 @@ pub struct Repaired {
     pub store: Store,
     /// What happened to each line.
     pub marks: Vec<Mark>,
+}
+
+/// One line that was wanted.
+#[derive(Clone, Copy, Debug, PartialEq, Eq)]
+pub struct One {
+    /// The line and its mark: those that a repair of the whole store gives.
+    pub read: Read,
+    /// The last step taken for it.
+    pub step: Step,
 }
 
 impl Store {
@@ -190,7 +200,7 @@ impl Store {
     }
 
     /// Line `n` as it reads alone. A faulty line is no error here: its mark
-    /// says so.
+    /// says so. [`Store::read_one`] goes on where it is faulty.
     ///
     /// # Errors
     ///
@@ -307,6 +317,74 @@ impl Store {
             passes,
             store,
             marks: marks.into_iter().map(Mark::from_number).collect(),
+        }
+    }
+
+    /// Line `n` as a repair of the whole store gives it, by as few steps as that
+    /// takes: the line is read alone; if it is faulty, its row is visited as
+    /// repair does; and only if it still is, the whole store is repaired. This
+    /// store stays as it is.
+    ///
+    /// A line that nothing can mend is no error here: its mark says so, and it
+    /// is as found. Nor is it one that other lines stay faulty, or that lines
+    /// don't agree with the tables: of that only [`Store::repair`] tells.
+    ///
+    /// Each call allocates room for a repair, as much as the store itself.
+    /// Where many lines are wanted, [`c::read_one`] takes buffers that are kept.
+    ///
+    /// ```
+    /// use sudoku::{Answer, Mark, Step, Store};
+    /// let captions = [[b'a'; 64], [b'b'; 64], [b'c'; 64], [b'd'; 64]];
+    /// let mut store = Store::from_data(2, 2, &captions)?;
+    ///
+    /// // Two bits of line 3 turn over: its row rebuilds it.
+    /// store.lines_mut()[3 * sudoku::LINE_BYTES] ^= 3;
+    /// let one = store.read_one(3)?;
+    /// assert_eq!((one.step, one.read.mark), (Step::Row, Mark::Rebuilt));
+    /// assert_eq!(one.read.data(), captions[3]);
+    ///
+    /// // So do the same two of line 2: now only the columns tell them apart.
+    /// store.lines_mut()[2 * sudoku::LINE_BYTES] ^= 3;
+    /// let one = store.read_one(3)?;
+    /// assert_eq!((one.step, one.read.mark), (Step::Repair, Mark::Rebuilt));
+    /// assert_eq!(one.read.data(), captions[3]);
+    ///
+    /// // The lines above them need no more than a reading.
+    /// assert_eq!(store.read_one(0)?.step, Step::Alone);
+    /// assert_eq!(store.read_one(4), Err(Answer::Number));
+    /// # Ok::<(), Answer>(())
+    /// ```
+    ///
+    /// # Errors
+    ///
+    /// [`Answer::Number`] if there is no such line.
+    pub fn read_one(&self, n: usize) -> Result<One, Answer> {
+        let work = c::Out {
+            lines: &mut vec![0; self.lines.len()],
+            marks: &mut vec![0; self.count()],
+            row_table: &mut vec![0; self.row_table.len()],
+            column_table: &mut vec![0; self.column_table.len()],
+        };
+        let mut line = [0; LINE_BYTES];
+        let (answer, mark, step) = c::read_one(
+            self.rows,
+            self.columns,
+            &self.lines,
+            &self.row_table,
+            &self.column_table,
+            n,
+            work,
+            &mut line,
+        );
+        match Answer::from_numbers(answer, 0) {
+            Answer::Done | Answer::Left => Ok(One {
+                read: Read {
+                    line,
+                    mark: Mark::from_number(mark),
+                },
+                step: Step::from_number(step),
+            }),
+            refusal => Err(refusal),
         }
     }
 }
