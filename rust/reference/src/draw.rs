@@ -654,7 +654,8 @@ pub struct Call {
     pub row_table: Vec<u8>,
     /// The column table, likewise.
     pub column_table: Vec<u8>,
-    /// Repair's line buffer.
+    /// Repair's line buffer; this and the next three are also those that a read
+    /// of one line works in.
     pub out: Vec<u8>,
     /// Repair's marks.
     pub marks: Vec<u8>,
@@ -662,7 +663,7 @@ pub struct Call {
     pub row_out: Vec<u8>,
     /// The column table that repair writes.
     pub column_out: Vec<u8>,
-    /// The number of the line to be changed.
+    /// The number of the line to be changed, or of the one wanted.
     pub n: usize,
     /// The data to be written.
     pub data: Vec<u8>,

@@ -1,5 +1,7 @@
 //! The marks as request Q-1 words them.
 
+// One part of it serves request Q-4 alone.
+#[allow(dead_code)]
 mod q1;
 
 use q1::Reading;

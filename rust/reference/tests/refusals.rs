@@ -3,8 +3,8 @@
 use reference::draw::{self, Call, Outcome, Store, call_on, flip};
 use reference::random::Random;
 use reference::{
-    Change, LINE_BYTES, ReadLine, change_line, check_file, file, make_tables, read_line,
-    storecheck, write_line,
+    Change, LINE_BYTES, One, Out, ReadLine, change_line, check_file, file, make_tables, read_line,
+    read_one, storecheck, write_line,
 };
 
 const FILLING: u8 = 0xA5;
@@ -124,6 +124,26 @@ fn repaired(call: &Call) -> u32 {
         assert!(given == Outcome { answer, ..before });
     }
     answer
+}
+
+/// A read of one line, over the buffers of this call.
+fn one_line(call: &mut Call) -> One {
+    let work = Out {
+        lines: &mut call.out,
+        marks: &mut call.marks,
+        row_table: &mut call.row_out,
+        column_table: &mut call.column_out,
+    };
+    read_one(
+        call.rows,
+        call.columns,
+        &call.lines,
+        &call.row_table,
+        &call.column_table,
+        call.n,
+        work,
+        &mut call.line_out,
+    )
 }
 
 /// Flips these places of the nth line in a buffer.
@@ -409,8 +429,8 @@ fn reports_of_answers_11_and_12() {
 #[test]
 fn drawn_calls_reach_every_refusal() {
     let mut random = Random::new(11);
-    // For writing, reading, tables, changing and repairing.
-    let mut answers = [[0usize; 15]; 5];
+    // For writing, reading, tables, changing, repairing and one line wanted.
+    let mut answers = [[0usize; 15]; 6];
     for _ in 0..20_000 {
         let mut call = draw::call(&mut random, 3);
         if random.once_in(8) {
@@ -434,6 +454,12 @@ fn drawn_calls_reach_every_refusal() {
         }
         call.line_out.clone_from(&before.line_out);
         count(4, repaired(&call));
+        let one = one_line(&mut call);
+        if count(5, one.answer) {
+            assert_eq!((one.mark, one.step), (0, 0));
+            assert_eq!(call, before);
+        }
+        call.clone_from(&before);
         let changed = change_line(
             rows,
             columns,
@@ -458,12 +484,13 @@ fn drawn_calls_reach_every_refusal() {
             assert_eq!(call, before);
         }
     }
-    let due: [&[usize]; 5] = [
+    let due: [&[usize]; 6] = [
         &[0, 7],
         &[0, 5, 7, 10],
         &[0, 2, 5, 6, 10],
         &[0, 2, 5, 6, 7, 8, 10, 13, 14],
         &[0, 2, 5, 6, 7, 11, 12],
+        &[0, 2, 5, 6, 7, 8, 11],
     ];
     for (entry, counts) in answers.iter().enumerate() {
         println!("{counts:?}");

@@ -18,16 +18,19 @@ pub enum Entry {
     Change,
     /// Repair.
     Repair,
+    /// Reading one line as repair gives it.
+    One,
 }
 
 impl Entry {
     /// Every entry point.
-    pub const ALL: [Entry; 5] = [
+    pub const ALL: [Entry; 6] = [
         Entry::Write,
         Entry::Read,
         Entry::Tables,
         Entry::Change,
         Entry::Repair,
+        Entry::One,
     ];
 
     /// The answers that it may give.
@@ -38,17 +41,22 @@ impl Entry {
             Entry::Tables => &[0, 2, 5, 6, 10],
             Entry::Change => &[0, 2, 5, 6, 7, 8, 13, 14, 10],
             Entry::Repair => &[0, 2, 5, 6, 7, 11, 12],
+            Entry::One => &[0, 2, 5, 6, 7, 8, 11],
         }
     }
 }
 
-/// The numbers that a call gives: its answer, the mark or the passes, and the
-/// number of a bad row or column; 0 where it gives none.
-#[derive(Clone, Copy, Debug, PartialEq, Eq)]
-struct Numbers {
-    answer: u32,
-    value: u64,
-    number: u64,
+/// The numbers that a call gives; 0 where it gives none.
+#[derive(Clone, Copy, Debug, Default, PartialEq, Eq)]
+pub struct Numbers {
+    /// The answer.
+    pub answer: u32,
+    /// The mark or the passes.
+    pub value: u64,
+    /// The number of a bad row or column.
+    pub number: u64,
+    /// The last step taken for one line.
+    pub step: u32,
 }
 
 /// What a call gives: its numbers, and every buffer handed in, read or written,
@@ -72,43 +80,67 @@ fn buffers(entry: Entry, call: &Call) -> (Vec<&[u8]>, usize) {
             let written: [&[u8]; 4] = [&call.out, &call.marks, row_out, column_out];
             ([&written[..], &[lines, rows, columns]].concat(), 4)
         }
+        Entry::One => {
+            let (as_repair, written) = buffers(Entry::Repair, call);
+            (
+                [&[&call.line_out[..]], &as_repair[..]].concat(),
+                written + 1,
+            )
+        }
     }
 }
 
 /// Makes the call over these buffers.
 fn make(entry: Entry, call: &Call, on: &dyn Interface, buffers: &mut [&mut [u8]]) -> Numbers {
     let (rows, columns) = (call.rows, call.columns);
-    let (answer, value, number) = match (entry, buffers) {
-        (Entry::Write, [line, data]) => (on.write_line(data, line), 0, 0),
+    let mut given = Numbers::default();
+    match (entry, buffers) {
+        (Entry::Write, [line, data]) => given.answer = on.write_line(data, line),
         (Entry::Read, [out, line]) => {
             let (answer, mark) = on.read_line(line, out);
-            (answer, mark.into(), 0)
+            (given.answer, given.value) = (answer, mark.into());
         }
         (Entry::Tables, [of_rows, of_columns, lines]) => {
-            let answer = on.make_tables(rows, columns, lines, of_rows, of_columns);
-            (answer, 0, 0)
+            given.answer = on.make_tables(rows, columns, lines, of_rows, of_columns);
         }
         (Entry::Change, [lines, of_rows, of_columns, data]) => {
-            let (answer, number) =
+            (given.answer, given.number) =
                 on.change_line(rows, columns, lines, of_rows, of_columns, call.n, data);
-            (answer, 0, number)
         }
         (Entry::Repair, [out, marks, row_out, column_out, lines, of_rows, of_columns]) => {
-            let out = Out {
-                lines: out,
+            let out = lent([out, marks, row_out, column_out]);
+            (given.answer, given.value) = on.repair(rows, columns, lines, of_rows, of_columns, out);
+        }
+        (
+            Entry::One,
+            [
+                line,
+                out,
                 marks,
-                row_table: row_out,
-                column_table: column_out,
-            };
-            let (answer, passes) = on.repair(rows, columns, lines, of_rows, of_columns, out);
-            (answer, passes, 0)
+                row_out,
+                column_out,
+                lines,
+                of_rows,
+                of_columns,
+            ],
+        ) => {
+            let (n, work) = (call.n, lent([out, marks, row_out, column_out]));
+            let (answer, mark, step) =
+                on.read_one(rows, columns, lines, of_rows, of_columns, n, work, line);
+            (given.answer, given.value, given.step) = (answer, mark.into(), step);
         }
         _ => panic!("{entry:?} has other buffers"),
     };
-    Numbers {
-        answer,
-        value,
-        number,
+    given
+}
+
+/// Lines, marks and both tables, to be written.
+fn lent<'a>([lines, marks, row_table, column_table]: [&'a mut [u8]; 4]) -> Out<'a> {
+    Out {
+        lines,
+        marks,
+        row_table,
+        column_table,
     }
 }
 
@@ -131,15 +163,14 @@ fn guarded(entry: Entry, call: &Call, on: &dyn Interface, shift: usize) -> Given
     }
 }
 
-/// Makes the call on both implementations; gives the answer and the number of a
-/// bad row or column.
+/// Makes the call on both implementations; gives the numbers that both gave.
 ///
 /// # Panics
 ///
 /// Panics where they differ in anything, where the answer isn't one that the
 /// entry point may give, where a guard byte or a buffer that is only read was
 /// written, or where a refusal wrote something or gave a value.
-pub fn compare(entry: Entry, call: &Call, shift: usize) -> (u32, u64) {
+pub fn compare(entry: Entry, call: &Call, shift: usize) -> Numbers {
     let library = guarded(entry, call, &Library, shift);
     let reference = guarded(entry, call, &Reference, shift);
     assert!(
@@ -159,6 +190,7 @@ pub fn compare(entry: Entry, call: &Call, shift: usize) -> (u32, u64) {
         answer,
         value,
         number,
+        step,
     } = library.numbers;
     assert!(
         entry.answers().contains(&answer),
@@ -185,5 +217,14 @@ pub fn compare(entry: Entry, call: &Call, shift: usize) -> (u32, u64) {
         matches!(answer, 13 | 14) || number == 0,
         "{entry:?}, answer {answer}: the number of a row or column"
     );
-    (answer, number)
+    let steps = if writes && entry == Entry::One {
+        1..=3
+    } else {
+        0..=0
+    };
+    assert!(
+        steps.contains(&step),
+        "{entry:?}, answer {answer}: step {step}"
+    );
+    library.numbers
 }

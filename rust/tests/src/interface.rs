@@ -2,7 +2,7 @@
 
 use sudoku::c::Out;
 
-/// The five entry points over slices; each gives its answer first.
+/// The six entry points over slices; each gives its answer first.
 pub trait Interface {
     /// What failures are told by.
     fn name(&self) -> &'static str;
@@ -46,6 +46,20 @@ pub trait Interface {
         column_table: &[u8],
         out: Out,
     ) -> (u32, u64);
+
+    /// Reads one line as repair gives it; gives the mark and the last step too.
+    #[allow(clippy::too_many_arguments)]
+    fn read_one(
+        &self,
+        rows: usize,
+        columns: usize,
+        lines: &[u8],
+        row_table: &[u8],
+        column_table: &[u8],
+        n: usize,
+        work: Out,
+        line: &mut [u8],
+    ) -> (u32, u8, u32);
 }
 
 /// Both implementations, for tests that each has to pass.
@@ -104,6 +118,20 @@ impl Interface for Library {
     ) -> (u32, u64) {
         sudoku::c::repair(rows, columns, lines, row_table, column_table, out)
     }
+
+    fn read_one(
+        &self,
+        rows: usize,
+        columns: usize,
+        lines: &[u8],
+        row_table: &[u8],
+        column_table: &[u8],
+        n: usize,
+        work: Out,
+        line: &mut [u8],
+    ) -> (u32, u8, u32) {
+        sudoku::c::read_one(rows, columns, lines, row_table, column_table, n, work, line)
+    }
 }
 
 /// The second implementation.
@@ -157,13 +185,34 @@ impl Interface for Reference {
         column_table: &[u8],
         out: Out,
     ) -> (u32, u64) {
-        let out = reference::Out {
-            lines: out.lines,
-            marks: out.marks,
-            row_table: out.row_table,
-            column_table: out.column_table,
-        };
-        let given = reference::repair(rows, columns, lines, row_table, column_table, out);
+        let given = reference::repair(rows, columns, lines, row_table, column_table, same(out));
         (given.answer, given.passes)
+    }
+
+    fn read_one(
+        &self,
+        rows: usize,
+        columns: usize,
+        lines: &[u8],
+        row_table: &[u8],
+        column_table: &[u8],
+        n: usize,
+        work: Out,
+        line: &mut [u8],
+    ) -> (u32, u8, u32) {
+        let work = same(work);
+        let given =
+            reference::read_one(rows, columns, lines, row_table, column_table, n, work, line);
+        (given.answer, given.mark, given.step)
+    }
+}
+
+/// The same buffers for the second implementation.
+fn same(out: Out) -> reference::Out {
+    reference::Out {
+        lines: out.lines,
+        marks: out.marks,
+        row_table: out.row_table,
+        column_table: out.column_table,
     }
 }

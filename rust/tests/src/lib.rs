@@ -5,7 +5,7 @@ mod compare;
 mod guard;
 mod interface;
 
-pub use compare::{Entry, compare};
+pub use compare::{Entry, Numbers, compare};
 pub use guard::Guarded;
 pub use interface::{Interface, Library, Reference, both};
 

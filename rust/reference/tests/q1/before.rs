@@ -13,8 +13,7 @@ const FAULTY: u8 = 4;
 /// What repair gave for this store.
 pub fn repaired(store: &Store) -> Outcome {
     let groups = groups(store);
-    let (lines, marks) = all_places(&store.lines).iter().map(read_alone).unzip();
-    let mut held = Held { lines, marks };
+    let mut held = Held::read(store);
     let mut passes = 0;
     // Passes go on while lines are faulty, but fewer than before the last one.
     let mut before = usize::MAX;
@@ -43,6 +42,19 @@ pub fn repaired(store: &Store) -> Outcome {
         column_table: of_columns.iter().flat_map(handed_over).collect(),
         marks: held.marks,
     }
+}
+
+/// The lines that are faulty after every line was read alone and one row was
+/// visited.
+pub fn faulty_after_row(store: &Store, row: usize) -> Vec<usize> {
+    let group = &groups(store)[row];
+    let mut held = Held::read(store);
+    if group.usable {
+        held.visit(group);
+    }
+    (0..store.count())
+        .filter(|&n| held.marks[n] == FAULTY)
+        .collect()
 }
 
 /// Reading alone.
@@ -111,6 +123,12 @@ struct Held {
 }
 
 impl Held {
+    /// Every line read alone.
+    fn read(store: &Store) -> Held {
+        let (lines, marks) = all_places(&store.lines).iter().map(read_alone).unzip();
+        Held { lines, marks }
+    }
+
     fn faulty(&self) -> usize {
         self.marks.iter().filter(|&&mark| mark == FAULTY).count()
     }

@@ -4,7 +4,7 @@
 //! Everything here takes what an implementation gives, so that the tests of
 //! the library use it too.
 
-mod before;
+pub mod before;
 
 use reference::draw::{self, Damage, Outcome, Store, flip};
 use reference::line::{SPARE, correct, places};

@@ -8,10 +8,10 @@
 use super::{Outcome, PLACES, Store};
 
 /// Two places that make a line faulty.
-const TWO: &[usize] = &[0, 1];
+pub const TWO: &[usize] = &[0, 1];
 
 /// Two others.
-const ELSE: &[usize] = &[2, 3];
+pub const ELSE: &[usize] = &[2, 3];
 
 /// Places that, set alone, are a correct line: no two correct lines differ in
 /// fewer. Flipped in a correct line, they make another of it.
@@ -25,25 +25,25 @@ pub fn some_of_eight(bits: usize) -> Vec<usize> {
 }
 
 /// The Hamming bits.
-const HAMMING: [usize; 10] = [543, 544, 545, 546, 547, 548, 549, 550, 551, 552];
+pub const HAMMING: [usize; 10] = [543, 544, 545, 546, 547, 548, 549, 550, 551, 552];
 
 /// Places that differ from what was written: of some lines, of rows' and of
 /// columns' parity lines, each by its number.
 #[derive(Clone, Default)]
-struct Places {
+pub struct Places {
     lines: Vec<(usize, Vec<usize>)>,
     rows: Vec<(usize, Vec<usize>)>,
     columns: Vec<(usize, Vec<usize>)>,
 }
 
 /// No place at all.
-fn nothing() -> Places {
+pub fn nothing() -> Places {
     Places::default()
 }
 
 impl Places {
     /// The store that differs from the one written at these places.
-    fn flipped_in(&self, written: &Store) -> Store {
+    pub fn flipped_in(&self, written: &Store) -> Store {
         let mut store = written.clone();
         for (n, places) in &self.lines {
             store.hurt(*n, places);
@@ -58,19 +58,19 @@ impl Places {
     }
 
     /// And these of line n.
-    fn line(mut self, n: usize, places: &[usize]) -> Places {
+    pub fn line(mut self, n: usize, places: &[usize]) -> Places {
         self.lines.push((n, places.to_vec()));
         self
     }
 
     /// And these of a row's parity line.
-    fn row(mut self, row: usize, places: &[usize]) -> Places {
+    pub fn row(mut self, row: usize, places: &[usize]) -> Places {
         self.rows.push((row, places.to_vec()));
         self
     }
 
     /// And these of a column's parity line.
-    fn column(mut self, column: usize, places: &[usize]) -> Places {
+    pub fn column(mut self, column: usize, places: &[usize]) -> Places {
         self.columns.push((column, places.to_vec()));
         self
     }

@@ -19,7 +19,7 @@ use super::q2::{self, Ladder};
 pub use cases::{Case, all, every_place, on_the_way_to_another};
 
 /// Every line and parity line of a store with its spare bits set.
-fn all_spare_bits(store: &Store) -> Store {
+pub fn all_spare_bits(store: &Store) -> Store {
     let mut store = store.clone();
     let tables = [&mut store.row_table, &mut store.column_table];
     for lines in tables.into_iter().chain([&mut store.lines]) {
@@ -160,7 +160,7 @@ fn turned_back(call: &Call, answer: u32) -> Outcome {
 }
 
 /// The first refusal that fits a call, by the list.
-fn refusal(call: &Call) -> Option<u32> {
+pub fn refusal(call: &Call) -> Option<u32> {
     let Call { rows, columns, .. } = *call;
     let side = |side: usize| (2..=512).contains(&side);
     if !side(rows) || !side(columns) {

@@ -4,10 +4,10 @@
 use library_tests::seed;
 use reference::draw;
 use reference::random::Random;
-use sudoku::{Answer, LINE_BYTES, Mark, Store, read_line, write_line};
+use sudoku::{Answer, LINE_BYTES, Mark, Step, Store, read_line, write_line};
 
 /// The crate's store of these bytes.
-fn store_of(drawn: &draw::Store) -> Store {
+pub fn store_of(drawn: &draw::Store) -> Store {
     Store::from_parts(
         drawn.rows,
         drawn.columns,
@@ -19,7 +19,7 @@ fn store_of(drawn: &draw::Store) -> Store {
 }
 
 #[test]
-fn numbers_and_names_of_answers_and_marks() {
+fn numbers_and_names_of_answers_marks_and_steps() {
     for number in 0..20 {
         let answer = Answer::from_numbers(number, 5);
         assert_eq!(answer.number(), number);
@@ -39,6 +39,12 @@ fn numbers_and_names_of_answers_and_marks() {
         [0, 1].map(Mark::from_number),
         [Mark::Clean, Mark::Rewritten]
     );
+    for number in 0..5 {
+        assert_eq!(Step::from_number(number).number(), number);
+    }
+    let steps = [Step::Alone, Step::Row, Step::Repair];
+    assert_eq!([1, 2, 3].map(Step::from_number), steps);
+    assert_eq!(Step::from_number(0), Step::Other(0));
     assert_eq!(Answer::Done.done(), Ok(()));
     assert_eq!(Answer::Left.done(), Err(Answer::Left));
     assert_eq!(Answer::Left.to_string(), "faulty lines are left");
@@ -105,6 +111,8 @@ fn bad_input_comes_back_as_an_answer() {
 
     let mut store = Store::new(2, 2).expect("two by two");
     assert_eq!(store.read(4), Err(Answer::Number));
+    assert_eq!(store.read_one(4), Err(Answer::Number));
+    assert_eq!(store.read_one(usize::MAX), Err(Answer::Number));
     assert_eq!(store.line(usize::MAX), Err(Answer::Number));
     assert_eq!(store.change(4, &[0; 64]), Err(Answer::Number));
     store.lines_mut()[LINE_BYTES] ^= 3;

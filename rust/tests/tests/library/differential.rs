@@ -6,7 +6,7 @@
 
 use std::collections::BTreeMap;
 
-use library_tests::{Entry, as_many_as_usual, cases, compare, seed, watched};
+use library_tests::{Entry, Numbers, as_many_as_usual, cases, compare, seed, watched};
 use reference::PLACES;
 use reference::draw::{self, Call, Damage, Store, call_on};
 use reference::random::Random;
@@ -19,7 +19,7 @@ struct Tally(BTreeMap<(Entry, u32), [usize; 2]>);
 impl Tally {
     /// Compares one call and counts it.
     fn compare(&mut self, entry: Entry, call: &Call, random: &mut Random) -> u32 {
-        let (answer, number) = compare(entry, call, random.below(16));
+        let Numbers { answer, number, .. } = compare(entry, call, random.below(16));
         self.0.entry((entry, answer)).or_default()[usize::from(number != 0)] += 1;
         answer
     }
@@ -76,10 +76,11 @@ impl Tally {
     }
 }
 
-/// Compares what tables, change and repair give for this store.
+/// Compares what tables, change, repair and a read of one line give for this
+/// store.
 fn compare_all(tally: &mut Tally, random: &mut Random, store: &Store) {
     let call = call_on(random, store.clone());
-    for entry in [Entry::Tables, Entry::Change, Entry::Repair] {
+    for entry in [Entry::Tables, Entry::Change, Entry::Repair, Entry::One] {
         tally.compare(entry, &call, random);
     }
 }
