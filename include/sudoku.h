@@ -12,14 +12,15 @@
  * What a caller owes, since no function can test it:
  * - The length after a pointer is the buffer's true length: so many bytes may be read, and written where they are not const. Any
  *   true length may be handed in; one that the call cannot use is refused. A null pointer goes with length 0 only.
- * - `mark`, `passes` and `number` are not null. They are returned values: every call sets them, to 0 on refusals but for three,
- *   below.
- * - Writable buffers, `mark`, `passes` and `number` among them, overlap nothing else that is handed in: `row_out` is not `row_table`,
- *   nor `column_out` `column_table`, which repair reads to the end. Buffers that are only read may overlap each other.
+ * - `mark`, `passes`, `number` and `step` are not null. They are returned values: every call sets them, to 0 on refusals but for
+ *   three, below.
+ * - Writable buffers, these returned values among them, overlap nothing else that is handed in: `row_out` is not `row_table`, nor
+ *   `column_out` `column_table`, which repair reads to the end; `line` is no line of `lines` or `out`. Buffers that are only read may
+ *   overlap each other.
  * - Callers of sudoku_change_line and sudoku_repair are compiled with this header. Earlier ones had fewer or other parameters: a
  *   call compiled with one of them still links, and then bytes are written to places that the caller never named.
- * - Repair needs less than 48 kB of stack (about 32 kB of it a table), making tables about 110 kB, whatever the size of the
- *   rectangle; the other calls less than 2 kB.
+ * - Repair needs less than 48 kB of stack (about 32 kB of it a table), and so does sudoku_read_one, which may run it; making tables
+ *   needs about 110 kB, whatever the size of the rectangle; the other calls less than 2 kB.
  *
  * What a caller should know:
  * - After a refusal (any answer but 0, 11 and 12) the buffers are as they were: what stands in `out`, `marks` or the tables written
@@ -29,6 +30,11 @@
  *   wrong, and nothing tells which. Parity lines made afresh agree with such lines: keep the tables that were handed in.
  * - After SUDOKU_DONE lines and tables of a repair are those written, if no line and no parity line had more than five damaged
  *   bits. What holds beyond that is in README.md.
+ * - Where one caption is wanted while a show runs, sudoku_read_one gives the line as repair would, and looks at the rest of the
+ *   store only where the line needs it. With answer 0 it is a correct line, and the one written if no line and no parity line had
+ *   more than five damaged bits. Of other lines that are left faulty, and of lines and tables that disagree (12), only repair tells.
+ * - The four buffers that sudoku_read_one borrows are no result: after 0 and 11 they hold zeros, which are a valid store of empty
+ *   captions. Hand in none whose content is still needed.
  * - After SUDOKU_ROW_PARITY (13) or SUDOKU_COLUMN_PARITY (14), which only a change gives, repair the store: after 0 lines and tables
  *   agree, and any line can be changed. Or load that table anew. The row is tested first: with 13 the column's may be bad too.
  * - Lines and tables of zero bytes are a valid store, all lines and parity lines correct. Memory that was cleared cannot be told
@@ -84,9 +90,9 @@ extern "C" {
 /*
  * Answers. A call gives the first that fits in this order; 0 if none does. All but 0, 11 and 12 are refusals: all buffers are as
  * they were, and a returned value is 0. Three differ: sudoku_read_line's 10, which gives the line as found and mark 4, and 13 and
- * 14, which give the number of a row or a column, counted from 0. With 11 and 12 lines, marks, tables and passes are given as with
- * 0. (Numbers 1, 3 and 4 are about store files and come from no call here. 9 is no longer given: 13 and 14 stand in its place, in a
- * change alone, and are tested after 8 and before 10.)
+ * 14, which give the number of a row or a column, counted from 0. With 11 and 12 everything is given as with 0. (Numbers 1, 3 and 4
+ * are about store files and come from no call here. 9 is no longer given: 13 and 14 stand in its place, in a change alone, and are
+ * tested after 8 and before 10.)
  */
 enum sudoku_answer {
     SUDOKU_DONE = 0,           /* done */
@@ -98,7 +104,7 @@ enum sudoku_answer {
     SUDOKU_ROW_PARITY = 13,    /* change: the parity line of its row is not a correct line (its spare bits do not count) */
     SUDOKU_COLUMN_PARITY = 14, /* change: the parity line of its column is not a correct line (likewise) */
     SUDOKU_FAULTY = 10,        /* a line to be read alone, changed or summed into tables is faulty */
-    SUDOKU_LEFT = 11,          /* repair: faulty lines are left after the last pass */
+    SUDOKU_LEFT = 11,          /* repair: faulty lines are left after the last pass; one line wanted: it is left faulty */
     SUDOKU_DIFFERS = 12        /* repair: no line is faulty, but an accepted parity line differs from the lines: trust none */
 };
 
@@ -109,6 +115,13 @@ enum sudoku_mark {
     SUDOKU_MARK_TRIAL = 2,     /* mended by trial: one bit was flipped where the line's row or column does not sum up */
     SUDOKU_MARK_REBUILT = 3,   /* rebuilt from the parity line and the other lines of its row or column */
     SUDOKU_MARK_FAULTY = 4     /* faulty: given as found, spare bits 0 */
+};
+
+/* Steps: the last one that was taken for one line wanted. Each is taken only where those before it left the line faulty. */
+enum sudoku_step {
+    SUDOKU_STEP_ALONE = 1, /* the line was read alone */
+    SUDOKU_STEP_ROW = 2,   /* its row was visited, as repair does */
+    SUDOKU_STEP_REPAIR = 3 /* the whole rectangle was repaired */
 };
 
 /*
@@ -167,6 +180,26 @@ uint32_t sudoku_repair(size_t rows, size_t columns, const uint8_t *lines, size_t
                        const uint8_t *row_table, size_t row_len, const uint8_t *column_table, size_t column_len,
                        uint8_t *out, size_t out_len, uint8_t *marks, size_t marks_len,
                        uint8_t *row_out, size_t row_out_len, uint8_t *column_out, size_t column_out_len, uint64_t *passes);
+
+/*
+ * Reads line `n` as repair gives it, without repairing more than it takes. The line is read alone. If it is faulty, its row is
+ * visited as repair does: the row's lines and its parity line are read alone, and the line is mended by trial or rebuilt from them,
+ * unless that parity line is faulty. Only if the line is faulty still, the whole rectangle is repaired.
+ *
+ * Writes the line into `line`, 70 bytes with spare bits 0, and sets `mark` and `step`, the last step taken: 1, 2 or 3. Line and mark
+ * are those that sudoku_repair gives for this line, also where that answers 11 or 12. Lines and tables that are handed in stay as
+ * they are. `out`, `marks`, `row_out` and `column_out` have the lengths that repair's have and serve as room to work in: what they
+ * hold before does not matter, and after 0 and 11 they are all zero. Clearing them takes most of the time in steps 1 and 2.
+ *
+ * Answers: 0; 11 exactly if this line stays faulty: `line` is then the line as found, and the mark is 4. Never 12, and not 11 for
+ * other lines. 2; 5; 6 if one of the four tables has another length; 7 if `out_len` or `marks_len` is another, or `line_len` is not
+ * 70; 8. With all refusals `mark` and `step` are 0.
+ */
+uint32_t sudoku_read_one(size_t rows, size_t columns, const uint8_t *lines, size_t lines_len,
+                         const uint8_t *row_table, size_t row_len, const uint8_t *column_table, size_t column_len, size_t n,
+                         uint8_t *out, size_t out_len, uint8_t *marks, size_t marks_len,
+                         uint8_t *row_out, size_t row_out_len, uint8_t *column_out, size_t column_out_len,
+                         uint8_t *line, size_t line_len, uint8_t *mark, uint32_t *step);
 
 #ifdef __cplusplus
 }

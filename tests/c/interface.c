@@ -51,12 +51,17 @@ GUARDED(column_out, COLUMNS *LINE);
     (all_are(name##_all, GUARD) && all_are(name##_all + sizeof name##_all - GUARD, GUARD))
 #define UNTOUCHED(name) all_are(name##_all, sizeof name##_all)
 
-static int all_are(const uint8_t *bytes, size_t count)
+static int all_equal(const uint8_t *bytes, size_t count, uint8_t value)
 {
     for (size_t i = 0; i < count; i++)
-        if (bytes[i] != FILLING)
+        if (bytes[i] != value)
             return 0;
     return 1;
+}
+
+static int all_are(const uint8_t *bytes, size_t count)
+{
+    return all_equal(bytes, count, FILLING);
 }
 
 /* A number that is returned, between guard words: not 0 before the call, so that one which does not set it is seen. */
@@ -426,6 +431,213 @@ static void repairing_tables(void)
     put_back(&written);
 }
 
+/* Mark and step that are returned, between guards, as the number above. */
+static uint8_t mark_all[3];
+static uint32_t step_all[3];
+
+/* Whether the last call set mark and step to these, and nothing beside them. */
+static int marked(uint8_t mark, uint32_t step)
+{
+    return mark_all[0] == FILLING && mark_all[1] == mark && mark_all[2] == FILLING && step_all[0] == (uint32_t)UNSET
+        && step_all[1] == step && step_all[2] == (uint32_t)UNSET;
+}
+
+/* Reads line n, its buffer of so many bytes; all that is written holds the filling before. */
+static uint32_t read_sized(struct sizes s, size_t n, size_t line_len)
+{
+    fill_written();
+    FILL(line);
+    memset(mark_all, FILLING, sizeof mark_all);
+    step_all[0] = step_all[1] = step_all[2] = (uint32_t)UNSET;
+    return sudoku_read_one(s.rows, s.columns, lines, s.lines, rows, s.row_table, columns, s.column_table, n, out, s.out, marks,
+                           s.marks, row_out, s.row_out, column_out, s.column_out, line, line_len, mark_all + 1, step_all + 1);
+}
+
+/* Whether such a read is refused so: nothing is written, and mark and step are 0. */
+static int one_refused(struct sizes sizes, size_t n, size_t line_len, uint32_t answer)
+{
+    return read_sized(sizes, n, line_len) == answer && marked(0, 0) && UNTOUCHED(line) && UNTOUCHED(out) && UNTOUCHED(marks)
+        && UNTOUCHED(row_out) && UNTOUCHED(column_out);
+}
+
+/* Whether the buffers lent to work in are zero in these sizes, and as before beyond. */
+static int work_cleared(struct sizes s)
+{
+    return all_equal(out, s.out, 0) && all_are(out + s.out, ALL - s.out) && all_equal(marks, s.marks, 0)
+        && all_are(marks + s.marks, COUNT - s.marks) && all_equal(row_out, s.row_out, 0)
+        && all_are(row_out + s.row_out, ROWS * LINE - s.row_out) && all_equal(column_out, s.column_out, 0)
+        && all_are(column_out + s.column_out, COLUMNS * LINE - s.column_out) && written_intact();
+}
+
+/* Whether line n is given so, with answer 11 exactly if its mark is 4, and nothing that is read was written. */
+static int gives(struct sizes sizes, size_t n, uint32_t step, uint8_t mark, const uint8_t *expected)
+{
+    static struct store before;
+
+    keep(&before);
+    return read_sized(sizes, n, LINE) == (mark == SUDOKU_MARK_FAULTY ? SUDOKU_LEFT : SUDOKU_DONE) && marked(mark, step)
+        && memcmp(line, expected, LINE) == 0 && INTACT(line) && work_cleared(sizes) && as_kept(&before, 1) && INTACT(lines)
+        && INTACT(rows) && INTACT(columns);
+}
+
+/* From the last refusal of the list up: each is given though those after it fit too. Then each length alone. */
+static void one_refusals(void)
+{
+    struct sizes sizes = right;
+
+    CHECK(one_refused(sizes, COUNT, LINE, SUDOKU_NUMBER));
+    CHECK(one_refused(sizes, (size_t)-1, LINE, SUDOKU_NUMBER));
+    CHECK(one_refused(sizes, COUNT, LINE - 1, SUDOKU_BUFFER));
+    sizes.marks++;
+    CHECK(one_refused(sizes, COUNT, LINE - 1, SUDOKU_BUFFER));
+    sizes.out--;
+    CHECK(one_refused(sizes, COUNT, LINE - 1, SUDOKU_BUFFER));
+    sizes.column_out--;
+    CHECK(one_refused(sizes, COUNT, LINE - 1, SUDOKU_TABLE));
+    sizes.row_out++;
+    CHECK(one_refused(sizes, COUNT, LINE - 1, SUDOKU_TABLE));
+    sizes.column_table = LINE;
+    CHECK(one_refused(sizes, COUNT, LINE - 1, SUDOKU_TABLE));
+    sizes.row_table = 0;
+    CHECK(one_refused(sizes, COUNT, LINE - 1, SUDOKU_TABLE));
+    sizes.lines = 0;
+    CHECK(one_refused(sizes, COUNT, LINE - 1, SUDOKU_LINES));
+    sizes.rows = 513;
+    CHECK(one_refused(sizes, COUNT, LINE - 1, SUDOKU_SIDES));
+    sizes.rows = ROWS;
+    sizes.columns = 1;
+    CHECK(one_refused(sizes, COUNT, LINE - 1, SUDOKU_SIDES));
+
+    CHECK(one_refused(right, 0, LINE - 1, SUDOKU_BUFFER) && one_refused(right, 0, LINE + 1, SUDOKU_BUFFER));
+    CHECK(one_refused(right, 0, 0, SUDOKU_BUFFER));
+#define REFUSED_ALONE(length, answer)                                        \
+    do {                                                                     \
+        struct sizes one = right;                                            \
+        one.length++;                                                        \
+        CHECK(one_refused(one, 0, LINE, answer));                            \
+        one.length -= 2;                                                     \
+        CHECK(one_refused(one, 0, LINE, answer));                            \
+    } while (0)
+    REFUSED_ALONE(lines, SUDOKU_LINES);
+    REFUSED_ALONE(row_table, SUDOKU_TABLE);
+    REFUSED_ALONE(column_table, SUDOKU_TABLE);
+    REFUSED_ALONE(row_out, SUDOKU_TABLE);
+    REFUSED_ALONE(column_out, SUDOKU_TABLE);
+    REFUSED_ALONE(out, SUDOKU_BUFFER);
+    REFUSED_ALONE(marks, SUDOKU_BUFFER);
+}
+
+/*
+ * Document 01's samples, one line at a time: a 2 by 2 store of zero lines. Each is hurt in its first byte alone, 3 at places 0 and 1,
+ * 12 at 2 and 3. Its line comes back as zeros, or as found where the mark is 4.
+ */
+static void one_of_four(void)
+{
+    static const struct sizes four = {2, 2, 4 * LINE, 2 * LINE, 2 * LINE, 4 * LINE, 4, 2 * LINE, 2 * LINE};
+    static const uint8_t line_511[7] = {0x80, 0xC7, 0x6F, 0x66, 0x56, 0x09, 0x00}, zero[LINE] = {0};
+    static const struct {
+        uint8_t hurt[4], steps[4], marks[4];
+    } samples[] = {
+        {{0, 0, 0, 0}, {1, 1, 1, 1}, {0, 0, 0, 0}},
+        {{1, 0, 0, 8}, {1, 1, 1, 1}, {1, 0, 0, 1}},
+        {{3, 0, 0, 0}, {2, 1, 1, 1}, {3, 0, 0, 0}},
+        {{3, 12, 0, 0}, {2, 2, 1, 1}, {2, 2, 0, 0}},
+        /* The mismatch of their row is empty: the columns rebuild them. */
+        {{3, 3, 0, 0}, {3, 3, 1, 1}, {3, 3, 0, 0}},
+        {{3, 3, 3, 0}, {3, 3, 2, 1}, {3, 3, 3, 0}},
+        {{3, 3, 3, 3}, {3, 3, 3, 3}, {4, 4, 4, 4}},
+    };
+    static struct store before;
+
+    keep(&before);
+    memset(rows, 0, 2 * LINE);
+    memset(columns, 0, 2 * LINE);
+    for (size_t i = 0; i < sizeof samples / sizeof samples[0]; i++) {
+        memset(lines, 0, 4 * LINE);
+        for (size_t n = 0; n < 4; n++)
+            lines[n * LINE] = samples[i].hurt[n];
+        for (size_t n = 0; n < 4; n++) {
+            const int faulty = samples[i].marks[n] == SUDOKU_MARK_FAULTY;
+
+            CHECK(gives(four, n, samples[i].steps[n], samples[i].marks[n], faulty ? lines + n * LINE : zero));
+        }
+    }
+    /* Another correct line in line 0's place: repair says 12, a read of one line 0. */
+    memset(lines, 0, 4 * LINE);
+    memcpy(lines + 63, line_511, sizeof line_511);
+    for (size_t n = 0; n < 4; n++)
+        CHECK(gives(four, n, 1, SUDOKU_MARK_CLEAN, lines + n * LINE));
+    put_back(&before);
+}
+
+/* Whether every line of the 2 by 3 store gives its step and mark, and is the line that repair has just given with that mark. */
+static int each_gives(const uint8_t *steps, const uint8_t *expected)
+{
+    static uint8_t repaired[ALL], repaired_marks[COUNT];
+    int all = 1;
+
+    memcpy(repaired, out, ALL);
+    memcpy(repaired_marks, marks, COUNT);
+    for (size_t n = 0; n < COUNT; n++)
+        all &= repaired_marks[n] == expected[n] && gives(right, n, steps[n], expected[n], repaired + n * LINE);
+    return all;
+}
+
+/* The damage of `repairing` and `repairing_tables`, one line at a time. */
+static void one_as_repair(void)
+{
+    static const uint8_t alone[COUNT] = {1, 1, 1, 1, 1, 1}, clean[COUNT] = {0};
+    static struct store written;
+
+    CHECK(SUDOKU_STEP_ALONE == 1 && SUDOKU_STEP_ROW == 2 && SUDOKU_STEP_REPAIR == 3);
+    keep(&written);
+    CHECK(repairs(SUDOKU_DONE, 0) && each_gives(alone, clean));
+    lines[0] ^= 3;
+    lines[LINE] ^= 12;
+    lines[2 * LINE] ^= 1;
+    lines[4 * LINE + 68] ^= 1;
+    lines[5 * LINE + 69] ^= 0xFE;
+    CHECK(repairs(SUDOKU_DONE, 1)
+          && each_gives((const uint8_t[COUNT]){2, 2, 1, 1, 1, 1}, (const uint8_t[COUNT]){2, 2, 1, 0, 1, 1}));
+
+    /* A ring that nothing opens, and a line beside it that only its column rebuilds. */
+    put_back(&written);
+    for (size_t n = 0; n < COUNT; n++)
+        if (n % COLUMNS < 2)
+            lines[n * LINE] ^= 3;
+    lines[2 * LINE + 1] ^= 7;
+    CHECK(repairs(SUDOKU_LEFT, 2)
+          && each_gives((const uint8_t[COUNT]){3, 3, 3, 3, 3, 1}, (const uint8_t[COUNT]){4, 4, 3, 4, 4, 0}));
+
+    /* Lines 0 and 1 are correct, but not those written; line 5 is hurt past reading: its row rebuilds it. */
+    put_back(&written);
+    memset(lines, 0, 2 * LINE);
+    lines[5 * LINE] ^= 3;
+    CHECK(repairs(SUDOKU_DIFFERS, 1)
+          && each_gives((const uint8_t[COUNT]){1, 1, 1, 1, 1, 2}, (const uint8_t[COUNT]){0, 0, 0, 0, 0, 3}));
+    /* So is line 4, hurt alike: columns rebuild both. */
+    lines[4 * LINE] ^= 3;
+    CHECK(repairs(SUDOKU_DIFFERS, 1)
+          && each_gives((const uint8_t[COUNT]){1, 1, 1, 1, 3, 3}, (const uint8_t[COUNT]){0, 0, 0, 0, 3, 3}));
+
+    /* Line 1 has row 0 and column 1. One bit of the row's parity line, and one of another line: both are used as read. */
+    put_back(&written);
+    lines[LINE] ^= 3;
+    lines[2 * LINE + 9] ^= 16;
+    rows[5] ^= 1;
+    CHECK(repairs(SUDOKU_DONE, 1)
+          && each_gives((const uint8_t[COUNT]){1, 2, 1, 1, 1, 1}, (const uint8_t[COUNT]){0, 3, 1, 0, 0, 0}));
+    /* A second bit: the row is unusable, and the column rebuilds the line. */
+    rows[6] ^= 1;
+    CHECK(repairs(SUDOKU_DONE, 1)
+          && each_gives((const uint8_t[COUNT]){1, 3, 1, 1, 1, 1}, (const uint8_t[COUNT]){0, 3, 1, 0, 0, 0}));
+    /* So is the column: the line is left. */
+    columns[LINE] ^= 3;
+    CHECK(repairs(SUDOKU_LEFT, 1)
+          && each_gives((const uint8_t[COUNT]){1, 3, 1, 1, 1, 1}, (const uint8_t[COUNT]){0, 4, 1, 0, 0, 0}));
+    put_back(&written);
+}
+
 /*
  * How deep a call goes: it is made on a stack that was painted before. The same memory is mapped a second time and looked at there,
  * since to a memory checker what lies below a thread's stack pointer is nobody's.
@@ -541,11 +753,23 @@ static void write_one(void)
     big_answer = sudoku_write_line(big_lines, SUDOKU_DATA_BYTES, line, LINE);
 }
 
-static void read_one(void)
+static void read_alone(void)
 {
     uint8_t mark;
 
     big_answer = sudoku_read_line(big_lines, LINE, line, LINE, &mark);
+}
+
+/* The line that is wanted, its mark and the last step. */
+static size_t big_n;
+static uint8_t big_mark;
+static uint32_t big_step;
+
+static void big_one(void)
+{
+    big_answer = sudoku_read_one(SIDE, SIDE, big_lines, sizeof big_lines, big_rows, sizeof big_rows, big_columns,
+                                 sizeof big_columns, big_n, big_out, sizeof big_out, big_marks, sizeof big_marks, big_row_out,
+                                 sizeof big_row_out, big_column_out, sizeof big_column_out, line, LINE, &big_mark, &big_step);
 }
 
 static void put_big_back(void)
@@ -627,18 +851,39 @@ static void touch_deep(void)
     big_answer = array[DEEP - 1];
 }
 
-/* The stack that repair may take, and what it took at most. */
+/* The stack that repair and a read of one line may take, and what they took at most. */
 enum { REPAIR_STACK = 48 * 1024 };
 
-static size_t repair_depth;
+static size_t repair_depth, one_depth;
+
+static int fits(void (*call)(void), size_t *most)
+{
+    const size_t depth = depth_of(call);
+
+    if (depth > *most)
+        *most = depth;
+    return 0 < depth && depth < REPAIR_STACK;
+}
 
 static int repair_fits(void)
 {
-    const size_t depth = depth_of(big_repair);
+    return fits(big_repair, &repair_depth);
+}
 
-    if (depth > repair_depth)
-        repair_depth = depth;
-    return 0 < depth && depth < REPAIR_STACK;
+/* Whether a read of line n fits too, gives the line written, or as found where its mark is 4, and clears all that it works in. */
+static int one_fits(size_t n, uint32_t step, uint8_t mark)
+{
+    const int faulty = mark == SUDOKU_MARK_FAULTY;
+
+    big_n = n;
+    memset(big_out, FILLING, sizeof big_out);
+    memset(big_marks, FILLING, sizeof big_marks);
+    memset(big_row_out, FILLING, sizeof big_row_out);
+    memset(big_column_out, FILLING, sizeof big_column_out);
+    return fits(big_one, &one_depth) && big_answer == (faulty ? SUDOKU_LEFT : SUDOKU_DONE) && big_step == step && big_mark == mark
+        && memcmp(line, (faulty ? big_lines : big_written) + n * LINE, LINE) == 0 && all_equal(big_out, sizeof big_out, 0)
+        && all_equal(big_marks, sizeof big_marks, 0) && all_equal(big_row_out, sizeof big_row_out, 0)
+        && all_equal(big_column_out, sizeof big_column_out, 0);
 }
 
 static int takes_less(void (*call)(void), size_t bytes)
@@ -660,20 +905,30 @@ static void stack_depths(void)
     make_big();
 
     CHECK(repair_fits() && big_whole(0));
+    CHECK(one_fits(BIG - 1, SUDOKU_STEP_ALONE, SUDOKU_MARK_CLEAN));
     hurt_big();
     CHECK(repair_fits() && big_whole(1) && big_marks[302 * SIDE + 10] == SUDOKU_MARK_TRIAL);
+    CHECK(one_fits(97, SUDOKU_STEP_ALONE, SUDOKU_MARK_REWRITTEN));
+    CHECK(one_fits(302 * SIDE + 10, SUDOKU_STEP_ROW, SUDOKU_MARK_TRIAL));
+    CHECK(one_fits(2003, SUDOKU_STEP_ROW, SUDOKU_MARK_REBUILT));
+    /* Row 0 is unusable. */
+    CHECK(one_fits(0, SUDOKU_STEP_REPAIR, SUDOKU_MARK_REBUILT));
     put_big_back();
     chain_big();
     CHECK(repair_fits() && big_whole(SIDE / 2) && big_marks[0] == SUDOKU_MARK_REBUILT);
+    CHECK(one_fits(SIDE / 2 * (SIDE + 1), SUDOKU_STEP_REPAIR, SUDOKU_MARK_REBUILT));
+    CHECK(runs_within(big_one, REPAIR_STACK) && big_answer == SUDOKU_DONE && big_step == SUDOKU_STEP_REPAIR);
     put_big_back();
     lose_big();
     CHECK(repair_fits() && big_answer == SUDOKU_LEFT && big_passes == 1 && big_marks[SIDE + 1] == SUDOKU_MARK_FAULTY);
     CHECK(runs_within(big_repair, REPAIR_STACK) && big_answer == SUDOKU_LEFT);
+    CHECK(one_fits(SIDE + 1, SUDOKU_STEP_REPAIR, SUDOKU_MARK_FAULTY));
+    CHECK(runs_within(big_one, REPAIR_STACK) && big_answer == SUDOKU_LEFT && big_step == SUDOKU_STEP_REPAIR);
     put_big_back();
 
     CHECK(takes_less(big_tables, 110 * 1024) && big_answer == SUDOKU_DONE);
     CHECK(takes_less(big_change, 2 * 1024) && big_answer == SUDOKU_DONE);
-    CHECK(takes_less(read_one, 2 * 1024) && big_answer == SUDOKU_DONE);
+    CHECK(takes_less(read_alone, 2 * 1024) && big_answer == SUDOKU_DONE);
     CHECK(takes_less(write_one, 2 * 1024) && big_answer == SUDOKU_DONE);
 }
 
@@ -693,7 +948,11 @@ int main(void)
     repair_refusals();
     repairing();
     repairing_tables();
+    one_refusals();
+    one_of_four();
+    one_as_repair();
     stack_depths();
-    printf("C interface: %d checks, %d failed; repair took %lu bytes of stack\n", checks, failures, (unsigned long)repair_depth);
+    printf("C interface: %d checks, %d failed; repair took %lu bytes of stack, a read of one line %lu\n", checks, failures,
+           (unsigned long)repair_depth, (unsigned long)one_depth);
     return failures == 0 ? 0 : 1;
 }
