@@ -63,15 +63,7 @@ impl Doer {
         let (side, lines) = (store.side, &store.lines);
         let (rows, columns) = (&store.row_table, &store.column_table);
         match self {
-            Doer::Library => {
-                let out = sudoku::c::Out {
-                    lines: &mut out.lines,
-                    marks: &mut out.marks,
-                    row_table: &mut out.row_table,
-                    column_table: &mut out.column_table,
-                };
-                sudoku::c::repair(side, side, lines, rows, columns, out)
-            }
+            Doer::Library => sudoku::c::repair(side, side, lines, rows, columns, lent(out)),
             Doer::Peer => {
                 let out = peer::Out {
                     lines: &mut out.lines,
@@ -90,6 +82,24 @@ impl Doer {
             }
         }
     }
+}
+
+/// The buffers for the library.
+fn lent(out: &mut Buffers) -> sudoku::c::Out<'_> {
+    sudoku::c::Out {
+        lines: &mut out.lines,
+        marks: &mut out.marks,
+        row_table: &mut out.row_table,
+        column_table: &mut out.column_table,
+    }
+}
+
+/// Reads one line as repair gives it, with the library; gives the answer, the
+/// mark and the step.
+pub fn read_one(store: &Store, n: usize, work: &mut Buffers, line: &mut [u8]) -> (u32, u8, u32) {
+    let (side, lines) = (store.side, &store.lines);
+    let (rows, columns) = (&store.row_table, &store.column_table);
+    sudoku::c::read_one(side, side, lines, rows, columns, n, lent(work), line)
 }
 
 /// What library and peer both give, which has to be the same.
@@ -129,4 +139,18 @@ pub fn compare(store: &Store, (answer, passes): (u32, u64)) {
         (doer.repair(store, &mut out), out)
     });
     assert_eq!(given, (answer, passes), "answer and passes");
+}
+
+/// Makes sure that the library gives line n as the peer's repair does, by this
+/// step, and clears what it works in.
+pub fn compare_one(store: &Store, n: usize, step: u32) {
+    let (mut repaired, mut work) = (Buffers::new(store.side), Buffers::new(store.side));
+    Doer::Peer.repair(store, &mut repaired);
+    Doer::Peer.repair(store, &mut work);
+    let mut line = [0; LINE_BYTES];
+    let given = read_one(store, n, &mut work, &mut line);
+    assert_eq!(given, (0, repaired.marks[n], step), "answer, mark and step");
+    let expected = &repaired.lines[n * LINE_BYTES..][..LINE_BYTES];
+    assert!(line == expected, "library and peer differ: one line");
+    assert!(work == Buffers::new(store.side), "not cleared");
 }

@@ -13,8 +13,12 @@
 //! of the rounds' ratios. Prints a table in Markdown, in brackets the quartiles
 //! of one run's rounds or the least and the greatest of several runs' figures.
 //! Each row's bar is judged by the median; one that isn't met is no failure.
+//!
+//! A second table has one line wanted, each of its steps beside a measure of its
+//! own, in the same rounds.
 
 mod doers;
+mod one;
 mod runs;
 mod stores;
 mod table;
@@ -26,7 +30,7 @@ use std::process::ExitCode;
 
 use doers::{ALL, Doer, compare, compare_writing};
 use stores::{Buffers, DATA_BYTES, LINE_BYTES, Store};
-use table::{Bar, Figures, HEAD, Row, figures};
+use table::{Bar, Figures, HEAD, HEAD_ONE, Row, figures};
 use timing::{ROUNDS, Range, rounds};
 
 /// The side of the large stores.
@@ -53,7 +57,7 @@ const REPAIRS: [(&str, u32, u64, &[Bar]); 4] = [
     ("chained", 0, 256, &[Bar::Peer(1.0)]),
 ];
 
-/// The rows of the table, in the order in which a run gives their rounds.
+/// The rows of the first table, in the order in which a run gives their rounds.
 fn rows() -> Vec<Row> {
     let row = |name: &str, unit, bars| Row {
         name: name.to_string(),
@@ -89,7 +93,7 @@ fn single(from: &[u8], width: usize, work: impl Fn(Doer, &[u8], &mut [u8])) -> V
             black_box(&to);
         }
     });
-    let each = |times: [f64; 3]| figures(times.map(|time| time / (TURNS * FEW) as f64));
+    let each = |times: [f64; 3]| figures(&times.map(|time| time / (TURNS * FEW) as f64));
     times.into_iter().map(each).collect()
 }
 
@@ -97,7 +101,7 @@ fn single(from: &[u8], width: usize, work: impl Fn(Doer, &[u8], &mut [u8])) -> V
 fn whole(work: impl FnMut(Doer)) -> Vec<Figures> {
     let times = rounds(ALL, work).into_iter();
     times
-        .map(|times| figures(times.map(|time| time / 1e6)))
+        .map(|times| figures(&times.map(|time| time / 1e6)))
         .collect()
 }
 
@@ -118,18 +122,18 @@ fn growth(stores: &[Store; SIDES.len()]) -> [Vec<Figures>; SIDES.len() + 1] {
     for round in times {
         let (sizes, _) = round.as_chunks::<3>();
         for (row, times) in rows.iter_mut().zip(sizes) {
-            row.push(figures(times.map(|time| time / (SIDE * SIDE) as f64)));
+            row.push(figures(&times.map(|time| time / (SIDE * SIDE) as f64)));
         }
         let grown = [0, 1, 2].map(|doer| {
             let times = sizes.iter().map(|size| size[doer]);
             times.clone().fold(0.0, f64::max) / times.fold(f64::INFINITY, f64::min)
         });
-        rows[SIDES.len()].push(figures(grown));
+        rows[SIDES.len()].push(figures(&grown));
     }
     rows
 }
 
-/// One run: for each row its figures in every round.
+/// One run: for each row of both tables its figures in every round.
 fn run() -> Vec<Vec<Figures>> {
     let data = stores::data(SIDE * SIDE);
     let clean_stores = SIDES.map(Store::new);
@@ -167,20 +171,27 @@ fn run() -> Vec<Vec<Figures>> {
         })
     }));
     given.extend(growth(&clean_stores));
+    given.extend(one::run(clean));
     given
 }
 
-/// Prints the table.
+/// Prints both tables.
 fn print(given: &[Vec<Figures>], range: Range) {
-    println!("{HEAD}");
-    for (row, of) in rows().iter().zip(given) {
-        println!("{}", row.line(of, range));
+    let (first, second) = given.split_at(rows().len());
+    for (head, rows, given) in [(HEAD, rows(), first), (HEAD_ONE, one::rows(), second)] {
+        println!("{head}");
+        for (row, of) in rows.iter().zip(given) {
+            println!("{}", row.line(of, range));
+        }
+        println!();
     }
 }
 
-/// Several runs, and the table over them.
+/// Several runs, and the tables over them.
 fn several(count: usize) -> ExitCode {
-    match runs::several(count, rows().len()) {
+    // Three times and two ratios in the first table, two and one in the second.
+    let widths = [vec![5; rows().len()], vec![3; one::rows().len()]].concat();
+    match runs::several(count, &widths) {
         Ok(given) => {
             println!(
                 "{count} runs of at most {ROUNDS} rounds; in brackets the least and the greatest run:\n"

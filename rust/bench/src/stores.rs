@@ -45,6 +45,14 @@ impl Buffers {
             column_table: vec![0; side * LINE_BYTES],
         }
     }
+
+    /// Fills them with zeros.
+    pub fn clear(&mut self) {
+        self.lines.fill(0);
+        self.marks.fill(0);
+        self.row_table.fill(0);
+        self.column_table.fill(0);
+    }
 }
 
 /// Data for so many lines.
@@ -125,6 +133,15 @@ impl Store {
             flip(line, 9);
         }
         store
+    }
+
+    /// The store with these lines hurt at the same two places.
+    pub fn hurt_alike(&self, lines: &[usize]) -> Store {
+        self.hurt(|line, n| {
+            if lines.contains(&n) {
+                flip_two(line);
+            }
+        })
     }
 
     /// The store with each line hurt in this way, which is told its number.

@@ -4,27 +4,35 @@ use std::fmt;
 
 use crate::timing::{Range, Spread};
 
-/// The table's head.
+/// The head of the table beside peer and copy.
 pub const HEAD: &str = "\
 | | library | peer | copy | library / peer | library / copy | bar | met |
 |---|---|---|---|---|---|---|---|";
 
-/// What one round or one run says of a row: its time by library, peer and
-/// copy, then library / peer and library / copy.
-pub type Figures = [f64; 5];
+/// The head of the table of one line wanted, each row beside its own measure.
+pub const HEAD_ONE: &str = "\
+| one line | library | measure | library / measure | bar | met |
+|---|---|---|---|---|---|";
 
-/// The figures of a round with these times by library, peer and copy.
-pub fn figures([library, peer, copy]: [f64; 3]) -> Figures {
-    [library, peer, copy, library / peer, library / copy]
+/// What one round or one run says of a row: the library's time and those that
+/// it stands beside, then the library's through each of these.
+pub type Figures = Vec<f64>;
+
+/// The figures of a round with these times, the library's first.
+pub fn figures(times: &[f64]) -> Figures {
+    let (library, beside) = (times[0], &times[1..]);
+    let ratios = beside.iter().map(|time| library / time);
+    times.iter().copied().chain(ratios).collect()
 }
 
-/// The medians of the figures of several rounds: of the times, and of the
-/// rounds' ratios.
+/// The medians of the figures of several rounds, of which there is at least
+/// one: of the times, and of the rounds' ratios.
 pub fn medians(rounds: &[Figures]) -> Figures {
-    std::array::from_fn(|i| spread(rounds, i, Range::Whole).median)
+    let median = |i| spread(rounds, i, Range::Whole).median;
+    (0..rounds[0].len()).map(median).collect()
 }
 
-/// The median and the range of one of the five figures.
+/// The median and the range of one of the figures.
 fn spread(of: &[Figures], i: usize, range: Range) -> Spread {
     Spread::of(of.iter().map(|figures| figures[i]), range)
 }
@@ -36,6 +44,8 @@ pub enum Bar {
     Peer(f64),
     /// So many times the copy's.
     Copies(f64),
+    /// So many times its measure's.
+    Measure(f64),
     /// So much itself.
     Itself(f64),
 }
@@ -46,6 +56,7 @@ impl Bar {
         match self {
             Bar::Peer(most) => (3, most),
             Bar::Copies(most) => (4, most),
+            Bar::Measure(most) => (2, most),
             Bar::Itself(most) => (0, most),
         }
     }
@@ -70,6 +81,7 @@ impl fmt::Display for Bar {
         match self {
             Bar::Peer(most) => write!(f, "{most:.2} of the peer"),
             Bar::Copies(most) => write!(f, "{most} copies"),
+            Bar::Measure(most) => write!(f, "{most:.2} of the measure"),
             Bar::Itself(most) => write!(f, "{most}"),
         }
     }
@@ -94,15 +106,18 @@ impl Row {
             format!("{median:.digits$}{unit} ({low:.digits$} to {high:.digits$})")
         };
         let mut cells = vec![self.name.clone()];
+        // Of the first of those beside it the ratio has one digit more.
+        let beside = of[0].len() / 2;
+        let ratios = (1..=beside).map(|i| cell(beside + i, if i == 1 { 2 } else { 1 }, ""));
         match self.unit {
             Some(unit) => {
                 let unit = format!(" {unit}");
-                cells.extend([0, 1, 2].map(|i| cell(i, 1, &unit)));
-                cells.extend([cell(3, 2, ""), cell(4, 1, "")]);
+                cells.extend((0..=beside).map(|i| cell(i, 1, &unit)));
+                cells.extend(ratios);
             }
             None => {
-                cells.extend([0, 1, 2].map(|i| cell(i, 2, "")));
-                cells.extend([String::new(), String::new()]);
+                cells.extend((0..=beside).map(|i| cell(i, 2, "")));
+                cells.extend(vec![String::new(); beside]);
             }
         }
         let listed = |words: Vec<String>| words.join(", ");
@@ -128,16 +143,21 @@ mod tests {
         }
     }
 
+    /// The figures of these rounds.
+    fn all<const N: usize, const M: usize>(rounds: [[f64; N]; M]) -> [Figures; M] {
+        rounds.map(|times| figures(&times))
+    }
+
     /// The clock slows down between rounds: each round's ratio is right, and
     /// their median is, where that of the medians is none of them.
     #[test]
     fn the_rounds_ratios_are_judged() {
         let rounds = [[8.0, 10.0, 2.0], [8.0, 10.0, 2.0], [16.0, 20.0, 4.0]];
-        assert_eq!(medians(&rounds.map(figures)), [8.0, 10.0, 2.0, 0.8, 4.0]);
+        assert_eq!(medians(&all(rounds)), [8.0, 10.0, 2.0, 0.8, 4.0]);
         let rounds = [[8.0, 10.0, 2.0], [16.0, 18.0, 2.0], [16.0, 20.0, 2.0]];
-        assert_eq!(medians(&rounds.map(figures)), [16.0, 18.0, 2.0, 0.8, 8.0]);
+        assert_eq!(medians(&all(rounds)), [16.0, 18.0, 2.0, 0.8, 8.0]);
         assert_eq!(
-            row().line(&rounds.map(figures), Range::Quartiles),
+            row().line(&all(rounds), Range::Quartiles),
             "| tables | 16.0 ms (12.0 to 16.0) | 18.0 ms (14.0 to 19.0) | 2.0 ms (2.0 to 2.0) \
              | 0.80 (0.80 to 0.84) | 8.0 (6.0 to 8.0) | 0.85 of the peer, 6 copies | yes, no |"
         );
@@ -147,7 +167,7 @@ mod tests {
     fn runs_that_meet_a_bar_are_counted() {
         let runs = [[8.0, 10.0, 2.0], [9.0, 10.0, 2.0], [7.0, 10.0, 1.0]];
         assert_eq!(
-            row().line(&runs.map(figures), Range::Whole),
+            row().line(&all(runs), Range::Whole),
             "| tables | 8.0 ms (7.0 to 9.0) | 10.0 ms (10.0 to 10.0) | 2.0 ms (1.0 to 2.0) \
              | 0.80 (0.70 to 0.90) | 4.5 (4.0 to 7.0) | 0.85 of the peer, 6 copies \
              | yes (2 of 3), yes (2 of 3) |"
@@ -158,9 +178,23 @@ mod tests {
             bars: &[Bar::Itself(1.3)],
         };
         assert_eq!(
-            growth.line(&[figures([1.15, 1.2, 4.0])], Range::Quartiles),
+            growth.line(&all([[1.15, 1.2, 4.0]]), Range::Quartiles),
             "| growth | 1.15 (1.15 to 1.15) | 1.20 (1.20 to 1.20) | 4.00 (4.00 to 4.00) \
              |  |  | 1.3 | yes |"
+        );
+    }
+
+    #[test]
+    fn a_row_beside_its_measure() {
+        let one = Row {
+            name: "alone".to_string(),
+            unit: Some("ns"),
+            bars: &[Bar::Measure(1.2)],
+        };
+        assert_eq!(
+            one.line(&all([[5.0, 4.0], [9.0, 8.0]]), Range::Whole),
+            "| alone | 7.0 ns (5.0 to 9.0) | 6.0 ns (4.0 to 8.0) | 1.19 (1.12 to 1.25) \
+             | 1.20 of the measure | yes (1 of 2) |"
         );
     }
 }
