@@ -23,13 +23,15 @@ pub fn read_one(on: &dyn Interface, call: &Call) -> q4::Given {
     let mut row_table = Guarded::new(&call.row_out, 5);
     let mut column_table = Guarded::new(&call.column_out, 14);
     let mut line = Guarded::new(&call.line_out, 7);
+    // A copy, so that it shows where what is only read was written.
+    let read = call.clone();
     let (answer, mark, step) = on.read_one(
-        call.rows,
-        call.columns,
-        &call.lines,
-        &call.row_table,
-        &call.column_table,
-        call.n,
+        read.rows,
+        read.columns,
+        &read.lines,
+        &read.row_table,
+        &read.column_table,
+        read.n,
         Out {
             lines: lines.content_mut(),
             marks: marks.content_mut(),
@@ -52,7 +54,7 @@ pub fn read_one(on: &dyn Interface, call: &Call) -> q4::Given {
             row_out,
             column_out,
             line_out,
-            ..call.clone()
+            ..read
         },
     }
 }
@@ -118,12 +120,12 @@ fn every_line_of_small_stores() {
     let mut random = Random::new(seed());
     let mut seen = q4::Seen::default();
     let mut count = 0;
-    for sides in q4::small_sides() {
-        for way in Damage::ALL {
-            for _ in 0..cases(10) {
-                let store = q4::hurt_store(&mut random, sides, way);
-                count += every_line(&mut random, &store, &mut seen);
-            }
+    let with_ways = |sides| Damage::ALL.map(|way| (sides, way));
+    let all = q4::small_sides().into_iter().flat_map(with_ways);
+    for (sides, way) in all.step_by(step()) {
+        for _ in 0..cases(10) {
+            let store = q4::hurt_store(&mut random, sides, way);
+            count += every_line(&mut random, &store, &mut seen);
         }
     }
     println!("differential, every line of small stores: {count} cases");
