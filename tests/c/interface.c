@@ -600,6 +600,31 @@ static void one_as_repair(void)
     CHECK(repairs(SUDOKU_DONE, 1)
           && each_gives((const uint8_t[COUNT]){2, 2, 1, 1, 1, 1}, (const uint8_t[COUNT]){2, 2, 1, 0, 1, 1}));
 
+    /* Line 0 is mended by trial, then line 1 is the only one left: places 10 and 20; 100, 200, 300 and 400. */
+    put_back(&written);
+    lines[1] ^= 0x04;
+    lines[2] ^= 0x10;
+    lines[LINE + 12] ^= 0x10;
+    lines[LINE + 25] ^= 0x01;
+    lines[LINE + 37] ^= 0x10;
+    lines[LINE + 50] ^= 0x01;
+    CHECK(repairs(SUDOKU_DONE, 1)
+          && each_gives((const uint8_t[COUNT]){2, 2, 1, 1, 1, 1}, (const uint8_t[COUNT]){2, 3, 0, 0, 0, 0}));
+    /* Places 0 and 1; 1 and 5; 5 to 8. The mismatch is 0, 6, 7 and 8, and two lines are left: the row is visited once. */
+    put_back(&written);
+    lines[0] ^= 0x03;
+    lines[LINE] ^= 0x22;
+    lines[2 * LINE] ^= 0xE0;
+    lines[2 * LINE + 1] ^= 0x01;
+    CHECK(repairs(SUDOKU_DONE, 1)
+          && each_gives((const uint8_t[COUNT]){2, 3, 3, 1, 1, 1}, (const uint8_t[COUNT]){2, 3, 3, 0, 0, 0}));
+    /* Each line alone: its own row rebuilds it. */
+    for (size_t n = 0; n < COUNT; n++) {
+        put_back(&written);
+        lines[n * LINE] ^= 3;
+        CHECK(gives(right, n, SUDOKU_STEP_ROW, SUDOKU_MARK_REBUILT, written.lines + n * LINE));
+    }
+
     /* A ring that nothing opens, and a line beside it that only its column rebuilds. */
     put_back(&written);
     for (size_t n = 0; n < COUNT; n++)

@@ -89,7 +89,7 @@ pub fn all() -> impl Iterator<Item = Case> {
     let rows = [samples(), row_read_alone(), parity_of_the_row(), unusable()];
     let whole = [row_in_part(), passes(), others_left(), differing(), wrong()];
     let named = rows.into_iter().chain(whole).flatten();
-    named.chain(on_the_way_to_another())
+    named.chain(each_alone()).chain(on_the_way_to_another())
 }
 
 /// The samples of document 01.
@@ -227,8 +227,18 @@ fn row_in_part() -> Vec<Case> {
         .line(0, TWO)
         .line(1, &[2, 3, 4])
         .line(2, &[2, 3, 5]);
+    // The mismatch is {0, 6, 7, 8}, and line 0 is mended. Worked out again it
+    // would be {1, 6, 7, 8} and mend line 1.
+    let again = nothing().line(0, &[0, 1]).line(1, &[1, 5]);
     let beside = |others: &[usize]| nothing().line(0, &[10, 20]).line(1, others);
     vec![
+        case(
+            "the row is visited once",
+            (2, 3),
+            again.line(2, &[5, 6, 7, 8]),
+            0,
+            &[ROW_TRIAL, REBUILT, REBUILT, CLEAN, CLEAN, CLEAN],
+        ),
         case(
             "one by trial, and two are left in the row",
             (2, 3),
@@ -358,6 +368,23 @@ fn wrong() -> Vec<Case> {
         )
         .left(both()),
     ]
+}
+
+/// Every line of stores that aren't square hurt alone: its own row rebuilds it.
+fn each_alone() -> impl Iterator<Item = Case> {
+    let lines = [(2, 5), (5, 2)]
+        .into_iter()
+        .flat_map(|sides| (0..10).map(move |n| (sides, n)));
+    lines.map(|(sides, n)| {
+        let hurt = nothing().line(n, TWO);
+        case(
+            "a line alone",
+            sides,
+            hurt,
+            0,
+            &clean_but(10, &[(n, ROW_REBUILT)]),
+        )
+    })
 }
 
 /// The row's parity line on its way to another correct one, and a line that only
