@@ -17,7 +17,7 @@ const BESIDE: usize = WANTED + 200;
 /// The side of the smallest store.
 const LEAST: usize = 2;
 
-/// Reads of a line in one turn of the smallest store.
+/// Reads of a line in one turn of the smallest store, which stays in the cache.
 const READS: usize = 1000;
 
 /// The rows of the table, in the order in which `run` gives their rounds.
@@ -28,10 +28,18 @@ pub fn rows() -> Vec<Row> {
         bars,
     };
     vec![
-        row("step 1, beside clearing", "ms", &[Bar::Measure(1.2)]),
-        row("step 2, beside clearing", "ms", &[Bar::Measure(1.2)]),
         row(
-            "step 3, beside repair and clearing",
+            "step 1, 512 by 512, beside clearing",
+            "µs",
+            &[Bar::Measure(1.2)],
+        ),
+        row(
+            "step 2, 512 by 512, beside clearing",
+            "µs",
+            &[Bar::Measure(1.2)],
+        ),
+        row(
+            "step 3, 512 by 512, beside repair and clearing",
             "ms",
             &[Bar::Measure(1.15)],
         ),
@@ -60,46 +68,54 @@ pub fn run(clean: &Store) -> Vec<Vec<Figures>> {
     let by_row = clean.hurt_alike(&[WANTED]);
     let by_columns = clean.hurt_alike(&[WANTED, BESIDE]);
     let mut work = Buffers::new(SIDE);
+    // A clearing takes a fraction of a millisecond.
+    let micro = |given: Vec<[f64; 2]>| scaled(given, 1e3 * TURNS as f64);
     vec![
-        large(clean, 1, &mut work),
-        large(&by_row, 2, &mut work),
-        large(&by_columns, 3, &mut work),
-        smallest(),
+        micro(large(clean, 1, TURNS, &mut work)),
+        micro(large(&by_row, 2, TURNS, &mut work)),
+        scaled(large(&by_columns, 3, 1, &mut work), 1e6),
+        scaled(smallest(), (TURNS * READS) as f64),
     ]
 }
 
-/// The line wanted of a large store, which takes this step: milliseconds.
-fn large(store: &Store, step: u32, work: &mut Buffers) -> Vec<Figures> {
-    compare_one(store, WANTED, step);
-    let mut line = [0; LINE_BYTES];
-    let times = rounds(BOTH, |timed| {
-        let store = black_box(store);
-        match timed {
-            Timed::Library => {
-                black_box(read_one(store, WANTED, work, &mut line));
-            }
-            Timed::Measure => {
-                if step == 3 {
-                    black_box(Doer::Library.repair(store, work));
-                    black_box(&*work);
-                }
-                work.clear();
-            }
-        }
-        black_box((&*work, &line));
-    });
-    let in_ms = |times: [f64; 2]| figures(&times.map(|time| time / 1e6));
-    times.into_iter().map(in_ms).collect()
+/// The figures of these rounds, each time through so much.
+fn scaled(times: Vec<[f64; 2]>, by: f64) -> Vec<Figures> {
+    let scaled = |times: [f64; 2]| figures(&times.map(|time| time / by));
+    times.into_iter().map(scaled).collect()
 }
 
-/// Lines of the smallest store that read alone: nanoseconds for each.
-fn smallest() -> Vec<Figures> {
+/// The line wanted of a large store, which takes this step, so many times.
+fn large(store: &Store, step: u32, turns: usize, work: &mut Buffers) -> Vec<[f64; 2]> {
+    compare_one(store, WANTED, step);
+    let mut line = [0; LINE_BYTES];
+    rounds(BOTH, |timed| {
+        for _ in 0..turns {
+            let store = black_box(store);
+            match timed {
+                Timed::Library => {
+                    black_box(read_one(store, WANTED, work, &mut line));
+                }
+                Timed::Measure => {
+                    if step == 3 {
+                        black_box(Doer::Library.repair(store, work));
+                        black_box(&*work);
+                    }
+                    work.clear();
+                }
+            }
+            black_box((&*work, &line));
+        }
+    })
+}
+
+/// Lines of the smallest store that read alone, `TURNS` times `READS` of them.
+fn smallest() -> Vec<[f64; 2]> {
     let store = Store::new(LEAST);
     let count = LEAST * LEAST;
     (0..count).for_each(|n| compare_one(&store, n, 1));
     let mut work = Buffers::new(LEAST);
     let mut line = [0; LINE_BYTES];
-    let times = rounds(BOTH, |timed| {
+    rounds(BOTH, |timed| {
         for n in (0..TURNS * READS).map(|i| i % count) {
             let store = black_box(&store);
             match timed {
@@ -113,7 +129,5 @@ fn smallest() -> Vec<Figures> {
             }
             black_box((&work, &line));
         }
-    });
-    let each = |times: [f64; 2]| figures(&times.map(|time| time / (TURNS * READS) as f64));
-    times.into_iter().map(each).collect()
+    })
 }

@@ -140,10 +140,15 @@ fn threads_call_at_once() {
                 for _ in 0..50 {
                     let drawn = draw::hurt_store(&mut random, 5);
                     let expected = drawn.repaired(0);
-                    let repaired = store_of(&drawn).repair();
+                    let store = store_of(&drawn);
+                    let repaired = store.repair();
                     assert_eq!(repaired.store.lines(), expected.lines);
                     assert_eq!(repaired.store.row_table(), expected.row_table);
                     assert_eq!(repaired.store.column_table(), expected.column_table);
+                    for (n, line) in expected.lines.chunks(LINE_BYTES).enumerate() {
+                        let one = store.read_one(n).expect("a line");
+                        assert_eq!(one.read.line, line);
+                    }
                 }
             });
         }
