@@ -1,6 +1,6 @@
--- Laws of the SuDoku steps, over any list of groups: accepted lines stay (Stays), accepted marks decide nothing (Readings), the passes
--- (Passes), demand 3 (ExactReturn, NotAlike), no line mended into another (NoneWrong), parity lines
--- read alone (Parity, Used), accepted lines are correct (Sound), and what these rest on.
+-- Laws of the SuDoku steps, over any list of groups: accepted lines stay (Stays), accepted marks decide nothing (Readings), how much
+-- decides one line (OneLine), the passes (Passes), demand 3 (ExactReturn, NotAlike), no line mended into another (NoneWrong), parity
+-- lines read alone (Parity, Used), accepted lines are correct (Sound), and what these rest on.
 pub mod Case
 pub mod Lists
 pub mod Words
@@ -12,6 +12,7 @@ pub mod Passes
 pub mod Every
 pub mod Stays
 pub mod Readings
+pub mod OneLine
 pub mod Width
 pub mod Marking
 pub mod Faithful

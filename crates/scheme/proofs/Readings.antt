@@ -17,7 +17,7 @@ use Rattle.scheme.specs.Readings.{SameButMark, Agreeing, AgreeingLayers,
 use Rattle.scheme.proofs.Sums.{sum-ext}
 
 -- a choice by equal tests keeps a relation that holds between both ways
-choose : {A : Type 0} (R : A → A → Type 0) {a b : Bool} {w x y z : A} → a ≡ b → R w y → R x z → R (cond a w x) (cond b y z)
+pub choose : {A : Type 0} (R : A → A → Type 0) {a b : Bool} {w x y z : A} → a ≡ b → R w y → R x z → R (cond a w x) (cond b y z)
 choose R {b = b} {w} {x} {y} {z} e p q = rw e (go b)
   where
     go : (b : Bool) → R (cond b w x) (cond b y z)
