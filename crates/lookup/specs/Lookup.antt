@@ -16,7 +16,8 @@ use Rattle.rectangle.specs.Repair.{Buffers, StoreRepaired, repairStore}
 -- "then makes its row's visit as repair does": the store after a visit of row r, its parity line as read, from the first reading on
 unfoldable pub afterRow : ℕ → ℕ → List ℕ → List ℕ → ℕ → State
 afterRow rows columns lines rowTable r =
-    visit (readLine lineLayer) (asRead lineLayer (rowGroup columns rowTable r)) (readAll (readLine lineLayer) 0 (linesIn (rows * columns) lines))
+    visit (readLine lineLayer) (asRead lineLayer (rowGroup columns rowTable r))
+    (readAll (readLine lineLayer) 0 (linesIn (rows * columns) lines))
 
 -- "It stops as soon as the line is whole, and returns the last step taken: 1 alone, 2 row, 3 whole repair."
 unfoldable pub lastStep : ℕ → ℕ → List ℕ → List ℕ → ℕ → ℕ

@@ -35,10 +35,12 @@ pub record AsRepairGives (r : Rectangle) (n : ℕ) (work : Buffers) (given : One
   pub line : given .line ≡ bytesAt (repairOf r work .lines) n
   pub mark : given .mark ≡ getD (repairOf r work .marks) n 0
   pub eleven : (given .answer ≡ 11) ↔ (given .mark ≡ 4)
-  pub work : given .work ≡ allZeroed work
+  pub cleared : given .work ≡ allZeroed work
 
 abbrev pub OneAsRepair : Type 0
-OneAsRepair = (r : Rectangle) (n : ℕ) (work : Buffers) (line : List ℕ) → Done (readIn r n work line) → AsRepairGives r n work (readIn r n work line)
+OneAsRepair =
+    (r : Rectangle) (n : ℕ) (work : Buffers) (line : List ℕ) → Done (readIn r n work line)
+    → AsRepairGives r n work (readIn r n work line)
 
 -- ---- "a read of line n that reads it alone, then makes its row's visit as repair does, and only if both fail runs the whole repair": what
 -- the last step tells, and what the line is by it
@@ -48,7 +50,8 @@ pub record StepTells (r : Rectangle) (n : ℕ) (given : OneRead) : Type 0 where
   pub one : (given .step ≡ 1) ↔ (aloneAt (r .lines) n .mark ≡ 4 → ⊥)
   pub alone : given .step ≡ 1 → lineWith given ≡ inBytes (aloneAt (r .lines) n)
   -- by the visit
-  pub byRow : given .step ≡ 2 → lineWith given ≡ inBytes (cellAt (afterRow (r .rows) (r .columns) (r .lines) (r .rowTable) (n / r .columns)) n)
+  pub byRow : given .step ≡ 2
+      → lineWith given ≡ inBytes (cellAt (afterRow (r .rows) (r .columns) (r .lines) (r .rowTable) (n / r .columns)) n)
   -- "only if both fail"
   pub three : given .step ≡ 3 → cellAt (afterRow (r .rows) (r .columns) (r .lines) (r .rowTable) (n / r .columns)) n .mark ≡ 4
   -- "stops as soon as the line is whole": before the whole repair only then

@@ -63,11 +63,11 @@ pub map-map : {A B C : Type 0} (f : B → C) (g : A → B) (l : List A) → map 
 map-map f g [] = refl
 map-map {A} {B} {C} f g (a ∷ l) = ap (λ (m : List C). f (g a) ∷ m) (map-map f g l)
 
-map-append : {A B : Type 0} (f : A → B) (k l : List A) → map f (k ++ l) ≡ map f k ++ map f l
+pub map-append : {A B : Type 0} (f : A → B) (k l : List A) → map f (k ++ l) ≡ map f k ++ map f l
 map-append f [] l = refl
 map-append {A} {B} f (a ∷ k) l = ap (λ (m : List B). f a ∷ m) (map-append f k l)
 
-upFrom-split : (i m n : ℕ) → upFrom i (m + n) ≡ upFrom i m ++ upFrom (i + m) n
+pub upFrom-split : (i m n : ℕ) → upFrom i (m + n) ≡ upFrom i m ++ upFrom (i + m) n
 upFrom-split i zero n = ap₂ upFrom (first i) (none n)
   where
     first : (i : ℕ) → i ≡ i + 0

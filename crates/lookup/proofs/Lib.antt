@@ -1,0 +1,2 @@
+-- What decides one line of repair (Cells), and what is promised of a read of it (Promises).
+pub mod Cells
