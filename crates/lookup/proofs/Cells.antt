@@ -191,7 +191,12 @@ module _ (rows columns : ℕ) (lines rowTable columnTable : List ℕ) (work : Bu
   unfolding end handedOver
   repaired-line = rw runs (line-handed end n within)
 
-  pub repaired-mark : getD (repairIn rows columns lines rowTable columnTable work .marks) n 0
+  -- its mark, whatever stands past the end
+  pub repaired-mark-or : (d : ℕ) → getD (repairIn rows columns lines rowTable columnTable work .marks) n d
       ≡ cellAt (repaired rows columns lines rowTable columnTable .cells) n .mark
   unfolding end handedOver
-  repaired-mark = rw runs (mark-handed end n within 0)
+  repaired-mark-or d = rw runs (mark-handed end n within d)
+
+  pub repaired-mark : getD (repairIn rows columns lines rowTable columnTable work .marks) n 0
+      ≡ cellAt (repaired rows columns lines rowTable columnTable .cells) n .mark
+  repaired-mark = repaired-mark-or 0

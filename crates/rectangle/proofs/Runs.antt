@@ -69,7 +69,7 @@ module _ (rows columns : ℕ) (lines rowTable columnTable : List ℕ) where
       ∷ (acceptedAt lines n, 10)
       ∷ [])
 
-  repair-refusals : (out marks rowOut columnOut : List ℕ)
+  pub repair-refusals : (out marks rowOut columnOut : List ℕ)
       → repairRefusal rows columns lines rowTable columnTable out marks rowOut columnOut ∈ repairRefusals
   unfolding repairRefusal
   repair-refusals out marks rowOut columnOut =
