@@ -18,8 +18,9 @@ use Rattle.rectangle.specs.Store.{readUnder, isCorrectUnder, bytesAt, placesAt,
 use Rattle.rectangle.specs.Refusals.{sideFits, sidesFit, holds, tablesFit, parityCorrect, acceptedAt, changeRefusal, repairRefusal, numberWith}
 use Rattle.rectangle.specs.Change.{changeLine}
 use Rattle.rectangle.specs.Repair.{usedGroups, repairedBy, tableAfter, handedOver, repairBy}
+use Rattle.lookup.specs.Lookup.{afterRow, lastStep, oneRefusal, readOne}
 use Rattle.samples.specs.Samples as Samples
-use Rattle.samples.specs.Samples.{Sample, clean, hurt, last, repairedWith, changedWith, samples, cases, parityCases, all}
+use Rattle.samples.specs.Samples.{Sample, clean, hurt, last, repairedWith, changedWith, readWith, samples, cases, parityCases, oneCases, all}
 
 -- a table holds where its first rows and the others do
 by-parts : (n : ℕ) (table : List Sample) → T (all (take n table)) → T (all (drop n table)) → T (all table)
@@ -62,3 +63,19 @@ unlike-hold = tt
 
 pub parity-cases-hold : T (all parityCases)
 parity-cases-hold = by-parts 3 parityCases whole-hold unlike-hold
+
+-- ---- one line wanted
+early-hold : T (all (take 3 oneCases))
+unfolding generator generatorPolynomial dataPlaces protectedPlaces hammingPlaces linePlaces lineBytes places lineOf protected dataOf accepted hammingColumns positions hamming withCrc withHamming codeword isCorrect columns syndrome naming answerTo readAlone rebuild settle mismatch trial visit passesFrom repair answer unusable asRead parityAfter readUnder bytesAt placesAt linesIn aloneAt row column groups sideFits sidesFit holds tablesFit repairRefusal usedGroups repairedBy tableAfter handedOver repairBy clean hurt last afterRow lastStep oneRefusal readOne readWith
+early-hold = tt
+
+late-hold : T (all (take 3 (drop 3 oneCases)))
+unfolding generator generatorPolynomial dataPlaces protectedPlaces hammingPlaces linePlaces lineBytes places lineOf protected dataOf accepted hammingColumns positions hamming withCrc withHamming codeword isCorrect columns syndrome naming answerTo readAlone rebuild settle mismatch trial visit passesFrom repair answer unusable asRead parityAfter readUnder bytesAt placesAt linesIn aloneAt row column groups sideFits sidesFit holds tablesFit repairRefusal usedGroups repairedBy tableAfter handedOver repairBy clean hurt last afterRow lastStep oneRefusal readOne readWith
+late-hold = tt
+
+apart-hold : T (all (drop 3 (drop 3 oneCases)))
+unfolding generator generatorPolynomial dataPlaces protectedPlaces hammingPlaces linePlaces lineBytes places lineOf protected dataOf accepted hammingColumns positions hamming withCrc withHamming codeword isCorrect columns syndrome naming answerTo readAlone rebuild settle mismatch trial visit passesFrom repair answer unusable asRead parityAfter readUnder bytesAt placesAt linesIn aloneAt row column groups sideFits sidesFit holds tablesFit repairRefusal usedGroups repairedBy tableAfter handedOver repairBy clean hurt last afterRow lastStep oneRefusal readOne readWith
+apart-hold = tt
+
+pub one-cases-hold : T (all oneCases)
+one-cases-hold = by-parts 3 oneCases early-hold (by-parts 3 (drop 3 oneCases) late-hold apart-hold)

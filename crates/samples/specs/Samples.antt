@@ -13,6 +13,7 @@ use Rattle.linecode.specs.Before.{readBefore}
 use Rattle.linecode.specs.Entry.{written}
 use Rattle.rectangle.specs.Change.{LineChanged, changeLine}
 use Rattle.rectangle.specs.Repair.{StoreRepaired, repairStore}
+use Rattle.lookup.specs.Lookup.{OneRead, readOne}
 
 -- a store of two rows and two columns: its lines, and the parity lines of its rows and of its columns
 pub record Store : Type 0 where
@@ -39,6 +40,8 @@ pub data Sample : Type 0 where
   -- four zero lines, two by two, with these parity lines of the rows and of the columns: a change of line n answers so with this number,
   -- and writes nothing unless it answers 0
   changes : List (List ℕ) → List (List ℕ) → ℕ → ℕ → ℕ → Sample
+  -- of this store, line n is given by this step with this mark and answer, as this line; work buffers of sevens come back zero
+  reads : Store → ℕ → ℕ → ℕ → ℕ → List ℕ → Sample
 
 -- a line hurt at some places
 abbrev pub hurtAt : List ℕ → Word → Word
@@ -120,6 +123,25 @@ parityCases =
     ∷ repairs (firsts last twice clean) (firsts last last clean) (0 ∷ 0 ∷ 0 ∷ 0 ∷ []) 0 12
     ∷ []
 
+-- ---- request Q-4's cases
+-- two by two lines, with zero tables
+abbrev pub four : List ℕ → List ℕ → List ℕ → List ℕ → Store
+four a b c d = record { lines = a ∷ b ∷ c ∷ d ∷ []; rowTable = clean ∷ clean ∷ []; columnTable = clean ∷ clean ∷ [] }
+
+-- alone; by the row, rebuilt or by trial; by a column only; never. 12 is not passed on, nor is 11 where another line stays faulty
+abbrev pub oneCases : List Sample
+oneCases =
+    reads (four twice clean clean clean) 0 2 3 0 clean
+    ∷ reads (four twice clean clean clean) 1 1 0 0 clean
+    ∷ reads (four (hurt (0 ∷ [])) clean clean clean) 0 1 1 0 clean
+    ∷ reads (four twice (hurt (2 ∷ 3 ∷ [])) clean clean) 1 2 2 0 clean
+    ∷ reads (four twice twice clean clean) 0 3 3 0 clean
+    ∷ reads (four twice twice twice twice) 0 3 4 11 twice
+    ∷ reads (four last clean clean clean) 0 1 0 0 last
+    ∷ reads (firsts twice twice twice) 0 3 4 11 twice
+    ∷ reads (firsts twice twice twice) 1 1 0 0 clean
+    ∷ []
+
 abbrev pub sameBytes : List ℕ → List ℕ → Bool
 sameBytes [] [] = true
 sameBytes [] (b ∷ y) = false
@@ -158,6 +180,13 @@ givesWithZeros columns found lines marks passes answer =
 unfoldable pub changedWith : List (List ℕ) → List (List ℕ) → ℕ → LineChanged
 changedWith rowTable columnTable n = changeLine 2 2 (replicate 280 0) (joined rowTable) (joined columnTable) n (replicate 64 1)
 
+-- line n of a store read, with work buffers of sevens
+unfoldable pub readWith : Store → ℕ → OneRead
+readWith s n =
+    readOne 2 2 (joined (s .lines)) (joined (s .rowTable)) (joined (s .columnTable)) n
+    (record { lines = replicate 280 7; marks = replicate 4 7; rowTable = replicate 140 7; columnTable = replicate 140 7 })
+    (replicate 70 7)
+
 -- what a row claims
 abbrev pub holds : Sample → Bool
 holds (writes payload line) = sameBytes (written payload) line
@@ -187,6 +216,14 @@ holds (changes rowTable columnTable n answer number) =
     || (sameBytes (changed .lines) (replicate 280 0)
     && sameBytes (changed .rowTable) (joined rowTable)
     && sameBytes (changed .columnTable) (joined columnTable)))
+holds (reads store n step mark answer line) =
+    let read = readWith store n in
+    eqb (read .step) step && eqb (read .mark) mark && eqb (read .answer) answer
+    && sameBytes (read .line) line
+    && sameBytes (read .work .lines) (replicate 280 0)
+    && sameBytes (read .work .marks) (replicate 4 0)
+    && sameBytes (read .work .rowTable) (replicate 140 0)
+    && sameBytes (read .work .columnTable) (replicate 140 0)
 
 abbrev pub all : List Sample → Bool
 all [] = true
