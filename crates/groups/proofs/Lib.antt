@@ -8,4 +8,7 @@ pub mod Added
 pub mod Joined
 pub mod Busy
 pub mod Listing
+pub mod Searching
+pub mod Trials
+pub mod Settled
 pub mod Beside

@@ -2,7 +2,7 @@
 use mathlib.Core.Path.{_≡_, subst, _∙_}
 use lib.ListN.{getD}
 use Rattle.groups.specs.Lent.{Carried, numberOf}
-use Rattle.mending.proofs.Settling.{still-inside, only-inside, only-faulty, word-long, rebuilt-is, settled, unsettled}
+use Rattle.mending.proofs.Settling.{still-inside, only-inside, only-faulty, word-long, line-rebuilt, group-settled, unsettled}
 use native.Mathlib.Omega.{arith}
 use Rattle.groups.proofs.Joined.{which-difference, which-reached}
 use borrow.Author.Needs.{needs}
@@ -70,10 +70,10 @@ returns c =
     let rebuilt = c .before .before .before .before .before .before .before .before .before .before .before .before .before .before .before .before .xor-lines .ensures in
     λ parity s carried.
     subst (Carried _ _ parity _ _ _ _)
-    (settled _ _ _ _ _ _ (pre .0 .room) _ _ _ _ (pre .1 .numbered) (one (c .before .before .before .before .before .before .before .before .before .before .before .before .before .before .before .before .before .before .before .before .before .before .before .before)) _ found parity s carried _ _ _ lack line rebuilt)
+    (group-settled _ _ _ _ _ _ (pre .0 .room) _ _ _ _ (pre .1 .numbered) (one (c .before .before .before .before .before .before .before .before .before .before .before .before .before .before .before .before .before .before .before .before .before .before .before .before)) _ found parity s carried _ _ _ lack line rebuilt)
     (c .before .before .before .before .before .before .before .before .before .before .mend .ensures parity s _ carried
     (word-long _ _ _ _ _ _ (pre .0 .room) _ _ _ _ (pre .1 .numbered) (one (c .before .before .before .before .before .before .before .before .before .before .before .before .before .before .before .before .before .before .before .before .before .before .before .before)) _ found parity s carried _ _ _ lack line rebuilt)
-    (rebuilt-is _ _ _ _ _ _ (pre .0 .room) _ _ _ _ (pre .1 .numbered) (one (c .before .before .before .before .before .before .before .before .before .before .before .before .before .before .before .before .before .before .before .before .before .before .before .before)) _ found parity s carried _ _ _ lack line rebuilt))
+    (line-rebuilt _ _ _ _ _ _ (pre .0 .room) _ _ _ _ (pre .1 .numbered) (one (c .before .before .before .before .before .before .before .before .before .before .before .before .before .before .before .before .before .before .before .before .before .before .before .before)) _ found parity s carried _ _ _ lack line rebuilt))
 
 same-length-5 : tie.Need-same-length-5
 same-length-5 c = search needs

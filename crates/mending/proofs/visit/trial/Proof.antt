@@ -11,7 +11,8 @@ use Rattle.rectangle.specs.Store.{bytesAt}
 use Rattle.rectangle.proofs.LineLayer.{read-as}
 use Rattle.groups.specs.Lent.{Room, Some}
 use Rattle.groups.proofs.Walk.{walk-in, walk-small}
-use Rattle.mending.proofs.Trying.{Searching, searching-start, searching-next, searching-failed, searching-found, tried-line, tried-long, Trying, trying-start, trying-some, trying-other, trying-failed, trying-mended, trying-end, four, retry, recarry, tries-length}
+use Rattle.groups.proofs.Searching.{tries-length, Searching, searching-start, searching-next, searching-failed, searching-found, tried-line, tried-long}
+use Rattle.mending.proofs.Trying.{Trying, trying-start, trying-some, trying-other, trying-failed, trying-mended, trying-end, four, retry, recarry}
 use Rattle.groups.proofs.Joined.{joined-length}
 use Rattle.groups.proofs.Rooms.{same-room}
 use Rattle.mending.proofs.visit.trial.Statement.{statement}
