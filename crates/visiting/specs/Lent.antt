@@ -39,7 +39,11 @@ pub record Mended (out marks out′ marks′ : List ℕ) (n : ℕ) : Type 0 wher
   pub is : getD marks′ n 0 < 4
   pub bytes : bytesAt out′ n ≡ lineOf (placesAt out′ n)
 
--- the store in the buffers becomes f of it, and every line that is not mended keeps its bytes
+-- every line that is not mended keeps its bytes, spare bits too
+abbrev pub MendedAlone : List ℕ → List ℕ → List ℕ → List ℕ → Type 0
+MendedAlone out marks out′ marks′ = (n : ℕ) → n < length marks → Untouched out marks out′ marks′ n ⊎ Mended out marks out′ marks′ n
+
+-- the store in the buffers becomes f of it, and nothing else of them changes
 pub record Becomes (f : State → State) (out marks out′ marks′ : List ℕ) : Type 0 where
   pub store : storeIn out′ marks′ ≡ f (storeIn out marks)
-  pub bytes : (n : ℕ) → n < length marks → Untouched out marks out′ marks′ n ⊎ Mended out marks out′ marks′ n
+  pub bytes : MendedAlone out marks out′ marks′

@@ -2,10 +2,10 @@
 // wanted. Document 01, "Repair".
 // Public for the crates that visit single groups, which have tested or made what it asks; not an entry point.
 ghost use mathlib.Core.Path.{_≡_};
-ghost use Prim.Native.Nat.{_/_, _≤_, _<_};
-ghost use lib.ListN.{length, getD, take};
+ghost use Prim.Native.Nat.{_/_, _≤_};
+ghost use lib.ListN.{length, take};
 ghost use Rattle.gf2.specs.Word.{_⊕_};
-ghost use Rattle.linecode.specs.Places.{places, lineOf};
+ghost use Rattle.linecode.specs.Places.{places};
 ghost use Rattle.scheme.specs.Layer.{readLine};
 ghost use Rattle.scheme.specs.Visit.{sum, tryLines, settle, trial as trial·, visit};
 ghost use Rattle.rectangle.specs.Store.{lineLayer, placesAt, stride};
@@ -34,10 +34,10 @@ fn count_faulty(marks: &[u8], first: usize, step: usize, count: usize) -> usize
     found
 }
 
-// The exclusive or of a parity line and of a group's lines as they stand.
+// The exclusive or of a parity line and of a group's lines as they stand. Its spare bits are those of no line and mean nothing.
 fn difference(out: &[u8], parity: [u8; 70], first: usize, step: usize, count: usize) -> [u8; 70]
     requires { ⌜ Inside first step count (length (now out) / 70) ⌝ }
-    ensures { λ r. ⌜ r ≡ lineOf (sum (placesAt (now (out .entry))) (stride first step count) ⊕ places parity) ⌝ }
+    ensures { λ r. ⌜ places r ≡ sum (placesAt (now (out .entry))) (stride first step count) ⊕ places parity ⌝ }
 {
     let mut sum = parity;
     let mut n = first;
@@ -49,7 +49,7 @@ fn difference(out: &[u8], parity: [u8; 70], first: usize, step: usize, count: us
         n += step;
         i += 1;
     }
-    place::clear_spare(sum)
+    sum
 }
 
 // Each faulty line of the group in rising order tries each place in rising order: flip it, read the line alone. The first accepted
