@@ -1,3 +1,8 @@
--- What decides one line of repair (Cells), and what is promised of a read of it (Promises).
+-- Laws of one line wanted, and the proofs of its promises.
 pub mod Cells
+pub mod Refusing
+pub mod Steps
+pub mod Clearing
+pub mod Group
+pub mod Row
 pub mod Promises

@@ -23,8 +23,8 @@ pub struct Repaired {
     pub passes: usize,
 }
 
-// The first refusal that fits, or 0.
-fn refusal(
+// The first refusal that fits, or 0. Public for a read of one line, which asks the same of its buffers.
+pub fn refusal(
     rows: usize,
     columns: usize,
     lines: &[u8],
