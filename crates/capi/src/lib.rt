@@ -1,12 +1,13 @@
 // The C interface: the entry points over slices and numbers, for programs in other languages to link.
-// In C a slice is a pointer and a length; the mark, the passes and the number are each returned through a pointer.
+// In C a slice is a pointer and a length; the mark, the passes, the number and the step are each returned through a pointer.
 use linecode::place;
 use single::alone;
 ghost use mathlib.Core.Path.{_≡_};
 ghost use lib.ListN.{length};
 ghost use Rattle.rectangle.specs.Tables.{TablesMade, makeTables};
 ghost use Rattle.rectangle.specs.Change.{LineChanged, changeLine};
-ghost use Rattle.rectangle.specs.Repair.{StoreRepaired, repairStore};
+ghost use Rattle.rectangle.specs.Repair.{Buffers, StoreRepaired, repairStore};
+ghost use Rattle.lookup.specs.Lookup.{OneRead, readOne};
 ghost use Rattle.capi.specs.Single.{Written, writeLine, Answered, readLine};
 
 // A line put into a buffer of its length. The data and the six bytes after them go apart: a processor waits where a load takes in bytes of
@@ -154,4 +155,61 @@ pub extern "C" fn sudoku_repair(
     );
     *passes = repaired.passes as u64;
     repaired.answer
+}
+
+// Line n read alone into `line`, then by its row's visit, then by the whole repair, with its mark and the last step taken.
+#[no_mangle]
+pub extern "C" fn sudoku_read_one(
+    rows: usize,
+    columns: usize,
+    lines: &[u8],
+    row_table: &[u8],
+    column_table: &[u8],
+    n: usize,
+    out: &mut [u8],
+    marks: &mut [u8],
+    row_out: &mut [u8],
+    column_out: &mut [u8],
+    line: &mut [u8],
+    mark: &mut u8,
+    step: &mut u32,
+) -> u32
+    ensures { λ r. ⌜ _≡_ {A = OneRead}
+        (record {
+          answer = r;
+          step = now (step .exit);
+          mark = now (mark .exit);
+          line = now (line .exit);
+          work = record {
+            lines = now (out .exit);
+            marks = now (marks .exit);
+            rowTable = now («row_out» .exit);
+            columnTable = now («column_out» .exit);
+          };
+        })
+        (readOne rows columns (now (lines .entry)) (now («row_table» .entry)) (now («column_table» .entry)) n
+        (record {
+          lines = now (out .entry);
+          marks = now (marks .entry);
+          rowTable = now («row_out» .entry);
+          columnTable = now («column_out» .entry);
+        })
+        (now (line .entry))) ⌝ }
+{
+    let one = lookup::read_one(
+        rows,
+        columns,
+        lines,
+        row_table,
+        column_table,
+        n,
+        out,
+        marks,
+        row_out,
+        column_out,
+        line,
+    );
+    *mark = one.mark;
+    *step = one.step;
+    one.answer
 }

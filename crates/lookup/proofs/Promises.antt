@@ -16,6 +16,7 @@ use Rattle.rectangle.specs.Store.{lineLayer, bytesAt, placesAt, aloneAt, inByte
 use Rattle.rectangle.specs.Refusals.{sidesFit, holds, tablesFit, repairRefusal, repairRefusals}
 use Rattle.rectangle.specs.Repair.{Buffers, handsOver, handedOver}
 use Rattle.rectangle.proofs.Members.{in-left, in-right}
+use Rattle.rectangle.proofs.Spare.{bytes-is}
 use Rattle.rectangle.proofs.Tests.{passed, refusal-in, not-among, either-way}
 use Rattle.rectangle.proofs.Refusing.{sizes-then}
 use Rattle.rectangle.proofs.Runs.{zero-or-not, answer-hands-over, repair-refusals}
@@ -26,6 +27,8 @@ use Rattle.demands.proofs.Sound.{givenCorrect}
 use Rattle.demands.proofs.Kept.{faultyAsFound, noWrongLine, exactReturn}
 use Rattle.lookup.specs.Lookup.{afterRow, lastStep, oneRefusal, oneAnswers, givenBy, readOne}
 use Rattle.lookup.specs.Promises.{readIn, Done, lineWith, AsRepairGives, OneAsRepair, StepTells, StepsTell, OneRefused, OneSafe}
+use Rattle.lookup.proofs.Refusing.{OnePass, one-passes, nothing-refused}
+use Rattle.lookup.proofs.Steps.{one-refused as one-refused-as}
 use Rattle.lookup.proofs.Cells.{alone-final, row-final, repaired-line, repaired-mark-or, repaired-mark}
 
 -- two numbers that differ
@@ -49,26 +52,22 @@ module _ (r : Rectangle) (n : ℕ) (work : Buffers) (line : List ℕ) where
   refusal = oneRefusal (r .rows) (r .columns) (r .lines) (r .rowTable) (r .columnTable) n work line
 
   -- ---- what is refused
-  -- what its tests ask for
-  record Asked : Type 0 where
-    repair : Repairs.refusal r work ≡ 0
-    bytes : length line ≡ lineBytes
-    number : n < count r
+  -- where nothing is: what its tests ask for
+  abbrev Asked : Type 0
+  Asked = OnePass (r .rows) (r .columns) (r .lines) (r .rowTable) (r .columnTable) n work line
 
   asked : refusal ≡ 0 → Asked
-  unfolding refusal oneRefusal Repairs.refusal
-  asked e = go (zero-or-not (Repairs.refusal r work))
-    where
-      go : (Repairs.refusal r work ≡ 0) ⊎ (Repairs.refusal r work ≡ 0 → ⊥) → Asked
-      go (inl z) =
-          let seven = passed (eqb (length line) lineBytes) 7 _ (λ y. omega arith) (rw z at e) in
-          let eight = passed (ltb n (count r)) 8 0 (λ y. omega arith) (seven .1) in
-          record { repair = z; bytes = eqb-true _ _ (seven .0); number = ltb-true _ _ (eight .0) }
-      go (inr d) = absurd (d (rw (ne-eqb (Repairs.refusal r work) 0 d) at e))
+  unfolding refusal
+  asked e = one-passes (r .rows) (r .columns) (r .lines) (r .rowTable) (r .columnTable) n work line e
 
   granted : Asked → refusal ≡ 0
-  unfolding refusal oneRefusal Repairs.refusal
-  granted a = rw (a .repair, eq-eqb _ _ (a .bytes), lt-ltb n (count r) (a .number))
+  unfolding refusal
+  granted a =
+      sym (nothing-refused (r .rows) (r .columns) (r .lines) (r .rowTable) (r .columnTable) n work line _ refl (a .ofRepair) (a .lineBytes) (a .inside))
+
+  not-refused : Asked → Repairs.refusal r work ≡ 0
+  unfolding Repairs.refusal
+  not-refused a = a .ofRepair
 
   own-refusal : refusal ∈ ownRefusals
   unfolding refusal oneRefusal Repairs.refusal
@@ -95,8 +94,8 @@ module _ (r : Rectangle) (n : ℕ) (work : Buffers) (line : List ℕ) where
   runs a = rw (granted a)
 
   refused : (refusal ≡ 0 → ⊥) → readIn r n work line ≡ record { answer = refusal; step = 0; mark = 0; line = line; work = work }
-  unfolding readIn readOne refusal
-  refused d = rw (ne-eqb refusal 0 d)
+  unfolding readIn refusal
+  refused d = sym (one-refused-as (r .rows) (r .columns) (r .lines) (r .rowTable) (r .columnTable) n work line refusal refl d)
 
   done-asked : Done (readIn r n work line) → Asked
   done-asked done = go (zero-or-not refusal) done
@@ -106,16 +105,21 @@ module _ (r : Rectangle) (n : ℕ) (work : Buffers) (line : List ℕ) where
       go (inr d) (inl e) = absurd (d (rw (refused d) at e))
       go (inr d) (inr e) = absurd (not-among 11 ownRefusals refl own-refusal (rw (refused d) at e))
 
+  -- where repair hands over, only the line and its number are left to ask for
+  fits : handsOver (repairOf r work .answer) ≡ true → length line ≡ lineBytes → n < count r → Asked
+  unfolding Repairs.refusal
+  fits over bytes number = record { ofRepair = Repairs.not-refused r work over; lineBytes = bytes ∙ bytes-is; inside = number }
+
   -- ---- a read that is not refused
   module _ (a : Asked) where
     hands : handsOver (repairOf r work .answer) ≡ true
     unfolding handedOver
-    hands = rw (Repairs.runs r work (a .repair)) (answer-hands-over (groupsOf r) (stepsOn r .cells))
+    hands = rw (Repairs.runs r work (not-refused a)) (answer-hands-over (groupsOf r) (stepsOn r .cells))
 
     room : Room r work
-    unfolding Repairs.refusal repairRefusal
+    unfolding repairRefusal
     room =
-        let next = sizes-then (r .rows) (r .columns) (r .lines) (r .rowTable) (r .columnTable) _ (a .repair) .1 in
+        let next = sizes-then (r .rows) (r .columns) (r .lines) (r .rowTable) (r .columnTable) _ (a .ofRepair) .1 in
         let six = passed (tablesFit (r .rows) (r .columns) (work .rowTable) (work .columnTable)) 6 _ (λ z. omega arith) next in
         let seven = passed (holds (count r) (work .lines) && eqb (length (work .marks)) (count r)) 7 0 (λ z. omega arith) (six .1) in
         let both = and-eq-true-iff (holds (count r) (work .lines)) (eqb (length (work .marks)) (count r)) .0 (seven .0) in
@@ -149,15 +153,15 @@ module _ (r : Rectangle) (n : ℕ) (work : Buffers) (line : List ℕ) where
 
     module _ (c : Cell) (final : cellAt (stepsOn r .cells) n ≡ c) where
       mark-final : getD (repairOf r work .marks) n 0 ≡ c .mark
-      unfolding repairOf Repairs.refusal
+      unfolding repairOf
       mark-final =
-          repaired-mark (r .rows) (r .columns) (r .lines) (r .rowTable) (r .columnTable) work (a .repair) n (a .number)
+          repaired-mark (r .rows) (r .columns) (r .lines) (r .rowTable) (r .columnTable) work (a .ofRepair) n (a .inside)
           ∙ ap (λ (d : Cell). d .mark) final
 
       line-final : bytesAt (repairOf r work .lines) n ≡ lineOf (c .line)
-      unfolding repairOf Repairs.refusal
+      unfolding repairOf
       line-final =
-          repaired-line (r .rows) (r .columns) (r .lines) (r .rowTable) (r .columnTable) work (a .repair) n (a .number)
+          repaired-line (r .rows) (r .columns) (r .lines) (r .rowTable) (r .columnTable) work (a .ofRepair) n (a .inside)
           ∙ ap (λ (d : Cell). lineOf (d .line)) final
 
       given-final : (k : ℕ) → lineWith (givenBy (repairOf r work) n k work) ≡ inBytes c
@@ -172,11 +176,11 @@ module _ (r : Rectangle) (n : ℕ) (work : Buffers) (line : List ℕ) where
     by-itself : isFaulty alone ≡ false → cellAt (stepsOn r .cells) n ≡ alone
     unfolding alone
     by-itself p =
-        alone-final (r .rows) (r .columns) (r .lines) (r .rowTable) (r .columnTable) fit n (a .number) (eqb-false _ 4 p)
+        alone-final (r .rows) (r .columns) (r .lines) (r .rowTable) (r .columnTable) fit n (a .inside) (eqb-false _ 4 p)
 
     by-row : isFaulty visited ≡ false → cellAt (stepsOn r .cells) n ≡ visited
     unfolding visited
-    by-row p = row-final (r .rows) (r .columns) (r .lines) (r .rowTable) (r .columnTable) fit n (a .number) (eqb-false _ 4 p)
+    by-row p = row-final (r .rows) (r .columns) (r .lines) (r .rowTable) (r .columnTable) fit n (a .inside) (eqb-false _ 4 p)
 
     step-tells : StepTells r n (readIn r n work line)
     unfolding step lastStep alone visited
@@ -214,19 +218,19 @@ module _ (r : Rectangle) (n : ℕ) (work : Buffers) (line : List ℕ) where
 
     -- ---- a line given with answer 0
     not-faulty : readIn r n work line .answer ≡ 0 → (d : ℕ) → getD (repairOf r work .marks) n d ≡ 4 → ⊥
-    unfolding repairOf Repairs.refusal
+    unfolding repairOf
     not-faulty e d m =
         let or =
-        repaired-mark-or (r .rows) (r .columns) (r .lines) (r .rowTable) (r .columnTable) work (a .repair) n (a .number) in
+        repaired-mark-or (r .rows) (r .columns) (r .lines) (r .rowTable) (r .columnTable) work (a .ofRepair) n (a .inside) in
         let z : readIn r n work line .answer ≡ 11 = faulty .1 (or 0 ∙ sym (or d) ∙ m) in
         omega arith
 
     correct : readIn r n work line .answer ≡ 0 → CorrectLine lineLayer n (places (readIn r n work line .line))
     unfolding placesAt
-    correct e = rw (runs a) (givenCorrect r work hands n (a .number) (not-faulty e 4))
+    correct e = rw (runs a) (givenCorrect r work hands n (a .inside) (not-faulty e 4))
 
     as-found : readIn r n work line .answer ≡ 11 → readIn r n work line .line ≡ lineOf (placesAt (r .lines) n)
-    as-found e = rw (runs a) (faultyAsFound r work hands n (a .number) (faulty .0 e))
+    as-found e = rw (runs a) (faultyAsFound r work hands n (a .inside) (faulty .0 e))
 
 pub one-as-repair : OneAsRepair
 one-as-repair r n work line d = as-repair r n work line (done-asked r n work line d)
@@ -235,7 +239,7 @@ pub steps-tell : StepsTell
 steps-tell r n work line d = step-tells r n work line (done-asked r n work line d)
 
 pub one-refused : OneRefused
-one-refused = record { answers = answers; nothing = nothing; only = only }
+one-refused = record { answers = answers; nothing = nothing; only = only; asked = asks }
   where
     answers : (r : Rectangle) (n : ℕ) (work : Buffers) (line : List ℕ) → readIn r n work line .answer ∈ oneAnswers
     answers r n work line = go (zero-or-not (refusal r n work line))
@@ -255,7 +259,13 @@ one-refused = record { answers = answers; nothing = nothing; only = only }
     only : (r : Rectangle) (n : ℕ) (work : Buffers) (line : List ℕ) → handsOver (repairOf r work .answer) ≡ true
         → length line ≡ lineBytes → n < count r → Done (readIn r n work line)
     only r n work line over bytes number =
-        done r n work line (record { repair = Repairs.not-refused r work over; bytes = bytes; number = number })
+        done r n work line (fits r n work line over bytes number)
+
+    asks : (r : Rectangle) (n : ℕ) (work : Buffers) (line : List ℕ) → Done (readIn r n work line)
+        → (handsOver (repairOf r work .answer) ≡ true) × (length line ≡ lineBytes) × (n < count r)
+    asks r n work line d =
+        let a = done-asked r n work line d in
+        (hands r n work line a, a .lineBytes ∙ sym bytes-is, a .inside)
 
 pub one-safe : OneSafe
 unfolding handsOver
@@ -276,21 +286,17 @@ one-safe =
         let a = done-asked received n work line (inl e) in
         rw (runs received n work line a)
         (noWrongLine written received w bounds work (room received n work line a) .asWritten n
-        (omega (arith, a .number, same-count written received bounds))
+        (omega (arith, a .inside, same-count written received bounds))
         (not-faulty received n work line a e 0))
 
     returned : (written received : Rectangle) → Written written → DamagedSo written received → (n : ℕ) (work : Buffers) (line : List ℕ)
         → Room received work → length line ≡ lineBytes → n < count written
         → (readIn received n work line .answer ≡ 0) × (readIn received n work line .line ≡ bytesAt (written .lines) n)
-    returned written received w damaged n work line fits bytes number =
-        let given = exactReturn written received w damaged work fits in
+    returned written received w damaged n work line roomy bytes number =
+        let given = exactReturn written received w damaged work roomy in
         let over : handsOver (repairOf received work .answer) ≡ true = ap handsOver (given .answer) in
         let a : Asked received n work line =
-        record {
-          repair = Repairs.not-refused received work over;
-          bytes = bytes;
-          number = omega (arith, number, same-count written received (damaged .bounds));
-        } in (
+        fits received n work line over bytes (omega (arith, number, same-count written received (damaged .bounds))) in (
           whole a (done received n work line a) (elevenIsLeft received work over .none (λ z. omega (arith, z, given .answer)) n),
           rw (runs received n work line a) (ap (λ (l : List ℕ). bytesAt l n) (given .lines)),
         )

@@ -65,9 +65,11 @@ pub record OneRefused : Type 0 where
   pub answers : (r : Rectangle) (n : ℕ) (work : Buffers) (line : List ℕ) → readIn r n work line .answer ∈ oneAnswers
   pub nothing : (r : Rectangle) (n : ℕ) (work : Buffers) (line : List ℕ) → (Done (readIn r n work line) → ⊥)
       → readIn r n work line ≡ record { answer = readIn r n work line .answer; step = 0; mark = 0; line = line; work = work }
-  -- and nothing else is refused
+  -- it is done exactly where repair hands over and the line's length and number fit
   pub only : (r : Rectangle) (n : ℕ) (work : Buffers) (line : List ℕ) → handsOver (repairOf r work .answer) ≡ true
       → length line ≡ lineBytes → n < count r → Done (readIn r n work line)
+  pub asked : (r : Rectangle) (n : ℕ) (work : Buffers) (line : List ℕ) → Done (readIn r n work line)
+      → (handsOver (repairOf r work .answer) ≡ true) × (length line ≡ lineBytes) × (n < count r)
 
 -- ---- Document 00: "a caption mended into the wrong words stands there as the play."
 pub record OneSafe : Type 0 where
