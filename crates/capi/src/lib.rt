@@ -6,7 +6,7 @@ ghost use mathlib.Core.Path.{_≡_};
 ghost use lib.ListN.{length};
 ghost use Rattle.rectangle.specs.Tables.{TablesMade, makeTables};
 ghost use Rattle.rectangle.specs.Change.{LineChanged, changeLine};
-ghost use Rattle.rectangle.specs.Repair.{Buffers, StoreRepaired, repairStore};
+ghost use Rattle.rectangle.specs.Repair.{StoreRepaired, repairStore};
 ghost use Rattle.lookup.specs.Lookup.{OneRead, readOne};
 ghost use Rattle.capi.specs.Single.{Written, writeLine, Answered, readLine};
 

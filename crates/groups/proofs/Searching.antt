@@ -94,7 +94,8 @@ module _ (ps : List ℕ) (v : State) (n : ℕ) (rest : List ℕ) where
       → tryLines (readLine lineLayer) ps v (n ∷ rest) ≡ tryLines (readLine lineLayer) ps (set v n c) rest
   turn-tried f c e =
       ap
-      (λ (b : Bool). tryLines (readLine lineLayer) ps (set v n (cond b (tryPlaces (readLine lineLayer) n (cellAt v n) ps) (cellAt v n))) rest)
+      (λ (b : Bool). tryLines (readLine lineLayer) ps
+      (set v n (cond b (tryPlaces (readLine lineLayer) n (cellAt v n) ps) (cellAt v n))) rest)
       (eq-eqb (cellAt v n .mark) 4 f)
       ∙ ap (λ (d : Cell). tryLines (readLine lineLayer) ps (set v n d) rest) e
 
@@ -111,6 +112,7 @@ module _ (ps : List ℕ) (v : State) (n : ℕ) (rest : List ℕ) where
   pub turn-other : (cellAt v n .mark ≡ 4 → ⊥) → tryLines (readLine lineLayer) ps v (n ∷ rest) ≡ tryLines (readLine lineLayer) ps v rest
   turn-other h =
       ap
-      (λ (b : Bool). tryLines (readLine lineLayer) ps (set v n (cond b (tryPlaces (readLine lineLayer) n (cellAt v n) ps) (cellAt v n))) rest)
+      (λ (b : Bool). tryLines (readLine lineLayer) ps
+      (set v n (cond b (tryPlaces (readLine lineLayer) n (cellAt v n) ps) (cellAt v n))) rest)
       (ne-eqb (cellAt v n .mark) 4 h)
       ∙ ap (λ (u : State). tryLines (readLine lineLayer) ps u rest) itself

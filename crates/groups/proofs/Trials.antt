@@ -52,12 +52,14 @@ module _ (g : Group) (s : State) where
     no-mismatch l =
         let h : number ≤ 6 = omega arith in
         let m : length (mismatch g s) < 1 = omega (arith, few-places h) in
-        chosen false (parts _ false _ refl (lt-leb 1 _ m) refl ∙ no-second (leb 2 (length (faultyOf s (g .members)))) (leb (length (mismatch g s)) 6))
+        chosen false (parts _ false _ refl (lt-leb 1 _ m) refl
+        ∙ no-second (leb 2 (length (faultyOf s (g .members)))) (leb (length (mismatch g s)) 6))
 
     pub many-places : 6 < number → trial (readLine lineLayer) g s ≡ s
     many-places l =
         let m : 6 < length (mismatch g s) = omega (arith, listed .many l, ap length mismatch-is) in
-        chosen false (parts _ _ false refl refl (lt-leb _ 6 m) ∙ no-third (leb 2 (length (faultyOf s (g .members)))) (leb 1 (length (mismatch g s))))
+        chosen false (parts _ _ false refl refl (lt-leb _ 6 m)
+        ∙ no-third (leb 2 (length (faultyOf s (g .members)))) (leb 1 (length (mismatch g s))))
 
     -- one to six places are tried
     pub places-tried : 2 ≤ length (faultyOf s (g .members)) → 1 ≤ number → number ≤ 6

@@ -1,7 +1,7 @@
 -- A group's lines read alone, each into its own place.
 use mathlib.Core.Path.{_≡_, refl, sym, ap, subst, _∙_}
 use mathlib.Core.List.{List}
-use Prim.Native.Nat.{ℕ, suc, _+_, _*_, _≤_, _<_}
+use Prim.Native.Nat.{ℕ, _+_, _*_, _≤_, _<_}
 use native.Mathlib.Decide.{ℕ-discrete}
 use native.Mathlib.Nat.{mul-le-mul-right}
 use native.Mathlib.Omega.{arith}
@@ -87,20 +87,14 @@ module _ (lines out₀ marks₀ : List ℕ) (first step count : ℕ) (out marks 
           ∙ put-elsewhere out marks (f .outBytes) n below (r .line) full (first + k * step) (inside k before) (earlier k before)
           ∙ f .done .bytes k before
 
-      marked : (k : ℕ) → k < i + 1 → Dec (k ≡ i) → getD (set marks n (r .mark)) (first + k * step) 0 ≡ aloneAt lines (first + k * step) .mark
+      marked : (k : ℕ) → k < i + 1 → Dec (k ≡ i)
+          → getD (set marks n (r .mark)) (first + k * step) 0 ≡ aloneAt lines (first + k * step) .mark
       marked k h (yes p) =
           subst (λ (m : ℕ). getD (set marks n (r .mark)) m 0 ≡ aloneAt lines m .mark) (sym (here k p))
           (getD-set-same marks n (r .mark) 0 below ∙ ap (λ (x : Reading). x .mark) e)
       marked k h (no q) =
           let before : k < i = omega arith in
           getD-set-other marks n (first + k * step) (r .mark) 0 (earlier k before) ∙ f .done .marked k before
-
--- the same with the buffers under other names
-pub refill : (lines out₀ marks₀ : List ℕ) (first step count : ℕ) (a b out marks : List ℕ) (n i : ℕ) → a ≡ out → b ≡ marks
-    → Filling lines out₀ marks₀ first step count out marks n i → Filling lines out₀ marks₀ first step count a b n i
-refill lines out₀ marks₀ first step count a b out marks n i p q f =
-    subst (λ (x : List ℕ). Filling lines out₀ marks₀ first step count x b n i) (sym p)
-    (subst (λ (y : List ℕ). Filling lines out₀ marks₀ first step count out y n i) (sym q) f)
 
 pub filling-end : (lines out₀ marks₀ : List ℕ) (first step count : ℕ) (out marks : List ℕ) (n i : ℕ)
     → Filling lines out₀ marks₀ first step count out marks n i → count ≤ i → ReadAlone lines first step count out marks

@@ -5,7 +5,7 @@ use mathlib.Core.Bool.{Bool, true, false, cond, _&&_, and-eq-true-iff}
 use mathlib.Core.List.{List, [], _∷_}
 use Prim.Native.Nat.{ℕ, _*_, _/_, _<_}
 use native.Mathlib.Omega.{arith}
-use borrow.Author.Tests.{eqb-true, eqb-false, eq-eqb, ne-eqb, ltb-true, lt-ltb}
+use borrow.Author.Tests.{eqb-true, eqb-false, ne-eqb}
 use lib.Dec.{eqb, ltb}
 use lib.ListN.{length, getD}
 use Rattle.linecode.specs.Places.{lineBytes, places, lineOf}
@@ -63,7 +63,8 @@ module _ (r : Rectangle) (n : ℕ) (work : Buffers) (line : List ℕ) where
   granted : Asked → refusal ≡ 0
   unfolding refusal
   granted a =
-      sym (nothing-refused (r .rows) (r .columns) (r .lines) (r .rowTable) (r .columnTable) n work line _ refl (a .ofRepair) (a .lineBytes) (a .inside))
+      sym (nothing-refused (r .rows) (r .columns) (r .lines) (r .rowTable) (r .columnTable) n work line _ refl (a .ofRepair)
+      (a .lineBytes) (a .inside))
 
   not-refused : Asked → Repairs.refusal r work ≡ 0
   unfolding Repairs.refusal

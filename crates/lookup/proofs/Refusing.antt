@@ -1,5 +1,5 @@
 -- What a read of one line refuses, and what it has to work with where it refuses nothing.
-use mathlib.Core.Path.{_≡_, refl, sym, _∙_}
+use mathlib.Core.Path.{_≡_, refl, sym}
 use mathlib.Core.Bool.{Bool, true, false}
 use mathlib.Core.List.{List}
 use Prim.Native.Nat.{ℕ, _*_, _≤_, _<_}
@@ -8,17 +8,18 @@ use borrow.Author.Tests.{eq-eqb, ne-eqb, eqb-true, eqb-false, lt-ltb, le-ltb, lt
 use lib.Dec.{eqb, ltb}
 use lib.ListN.{length}
 use Rattle.linecode.specs.Places.{lineBytes}
-use Rattle.rectangle.specs.Refusals.{unless, holds, tablesFit, repairRefusal}
+use Rattle.rectangle.specs.Refusals.{unless, holds, repairRefusal}
 use Rattle.rectangle.specs.Repair.{Buffers}
 use Rattle.rectangle.proofs.Tests.{passed}
-use Rattle.repair.proofs.Refusing.{RepairPass, repair-passes}
+use Rattle.repair.proofs.Refusing.{repair-passes}
 use Rattle.lookup.specs.Lookup.{oneRefusal}
 use Rattle.lookup.specs.Lent.{Wanted}
 
 module _ (rows columns : ℕ) (lines rowTable columnTable : List ℕ) (n : ℕ) (work : Buffers) (line : List ℕ) where
   -- ---- each way out
   module _ (r : ℕ)
-      (is : r ≡ repairRefusal rows columns lines rowTable columnTable (work .lines) (work .marks) (work .rowTable) (work .columnTable)) where
+      (is : r ≡ repairRefusal rows columns lines rowTable columnTable (work .lines) (work .marks) (work .rowTable)
+      (work .columnTable)) where
     pub refused-by-repair : (r ≡ 0 → ⊥) → r ≡ oneRefusal rows columns lines rowTable columnTable n work line
     unfolding oneRefusal
     refused-by-repair d = rw (sym is, ne-eqb r 0 d)
@@ -38,7 +39,8 @@ module _ (rows columns : ℕ) (lines rowTable columnTable : List ℕ) (n : ℕ) 
 
   -- ---- nothing is refused
   pub record OnePass : Type 0 where
-    pub ofRepair : repairRefusal rows columns lines rowTable columnTable (work .lines) (work .marks) (work .rowTable) (work .columnTable) ≡ 0
+    pub ofRepair : repairRefusal rows columns lines rowTable columnTable (work .lines) (work .marks) (work .rowTable)
+        (work .columnTable) ≡ 0
     pub lineBytes : length line ≡ 70
     pub inside : n < rows * columns
 

@@ -3,7 +3,7 @@ use mathlib.Core.Path.{_≡_, refl, sym, ap, ap₂, subst, _∙_}
 use mathlib.Core.Logic.{_⊎_, inl, inr}
 use mathlib.Core.Bool.{true, false}
 use mathlib.Core.List.{List, []}
-use Prim.Native.Nat.{ℕ, suc, _+_, _*_, _/_, _≤_, _<_}
+use Prim.Native.Nat.{ℕ, _*_, _/_, _<_}
 use native.Mathlib.Omega.{arith}
 use borrow.Author.Tests.{eq-eqb, ne-eqb}
 use lib.ListN.{length, getD}
@@ -11,7 +11,7 @@ use Rattle.gf2.specs.Word.{Word}
 use Rattle.linecode.specs.Places.{linePlaces, places, lineOf}
 use Rattle.linecode.specs.Entry.{reading}
 use Rattle.linecode.specs.declared.alone.Reading.{Reading}
-use Rattle.scheme.specs.Layer.{Cell, readLine, parityAddress}
+use Rattle.scheme.specs.Layer.{readLine, parityAddress}
 use Rattle.scheme.specs.Visit.{Group, State, cellAt, visit}
 use Rattle.scheme.specs.Parity.{readParity, unusable, asRead}
 use Rattle.scheme.specs.Demand3.{_∈_}
@@ -27,7 +27,7 @@ use Rattle.rectangle.proofs.Stride.{stride-index}
 use Rattle.groups.specs.Lent.{Inside, Picked, numberOf, membersOf}
 use Rattle.groups.specs.declared.tracked.Which.{Which}
 use Rattle.groups.proofs.Numbers.{row-of}
-use Rattle.visiting.specs.Lent.{cellIn, storeIn, Lent, groupAt, Untouched, Mended, Becomes}
+use Rattle.visiting.specs.Lent.{storeIn, Lent, groupAt, Untouched, Mended, Becomes}
 use Rattle.visiting.proofs.Stores.{store-length, store-at}
 use Rattle.lookup.specs.Lookup.{afterRow}
 use Rattle.lookup.specs.Lent.{Readable, ReadAlone, Wanted}
@@ -97,7 +97,8 @@ module _ (rows columns : ℕ) (lines rowTable out₀ marks₀ : List ℕ) (n : �
 
   -- the row's lines, as they are read
   module _ (out marks : List ℕ) (first step count : ℕ) (lines-are : stride first step count ≡ row columns (n / columns))
-      (inside : Inside first step count (rows * columns)) (same : length marks ≡ rows * columns) (filled : ReadAlone lines first step count out marks) where
+      (inside : Inside first step count (rows * columns)) (same : length marks ≡ rows * columns)
+      (filled : ReadAlone lines first step count out marks) where
     each : (m : ℕ) → m ∈ row columns (n / columns)
         → (m < length marks) × (bytesAt out m ≡ lineOf (aloneAt lines m .line)) × (getD marks m 0 ≡ aloneAt lines m .mark)
     each m i =
@@ -132,9 +133,11 @@ module _ (rows columns : ℕ) (lines rowTable out₀ marks₀ : List ℕ) (n : �
         row-visited rows columns lines rowTable [] (w .sides) n (w .inside) (storeIn out marks) (store-length out marks ∙ same) held
 
     -- line n out of buffers that hold the store after the visit
-    given : (out′ marks′ : List ℕ) → length marks′ ≡ rows * columns → storeIn out′ marks′ ≡ after → bytesAt out′ n ≡ lineOf (placesAt out′ n)
+    given : (out′ marks′ : List ℕ) → length marks′ ≡ rows * columns → storeIn out′ marks′ ≡ after
+        → bytesAt out′ n ≡ lineOf (placesAt out′ n)
         → (line : List ℕ) → line ≡ bytesAt out′ n
-        → _≡_ {A = Reading} (record { line = line; mark = getD marks′ n 0 }) (inBytes (cellAt (afterRow rows columns lines rowTable (n / columns)) n))
+        → _≡_ {A = Reading} (record { line = line; mark = getD marks′ n 0 })
+        (inBytes (cellAt (afterRow rows columns lines rowTable (n / columns)) n))
     given out′ marks′ long e spare line line-is =
         ap (λ (l : List ℕ). record { line = l; mark = getD marks′ n 0 }) (line-is ∙ spare)
         ∙ ap inBytes
@@ -142,16 +145,20 @@ module _ (rows columns : ℕ) (lines rowTable out₀ marks₀ : List ℕ) (n : �
 
     -- an unusable row's visit does nothing
     pub given-unvisited : unusable lineLayer (rowGroup columns rowTable (n / columns)) ≡ true → (line : List ℕ) → line ≡ bytesAt out n
-        → _≡_ {A = Reading} (record { line = line; mark = getD marks n 0 }) (inBytes (cellAt (afterRow rows columns lines rowTable (n / columns)) n))
+        → _≡_ {A = Reading} (record { line = line; mark = getD marks n 0 })
+        (inBytes (cellAt (afterRow rows columns lines rowTable (n / columns)) n))
     unfolding after
     given-unvisited u = given out marks same (sym (unusable-idle .byVisit lineLayer _ u (readLine lineLayer) (storeIn out marks))) clean
 
     pub given-visited : (out′ marks′ : List ℕ) (h : Group) → h ≡ asRead lineLayer (rowGroup columns rowTable (n / columns))
-        → length marks′ ≡ rows * columns → Becomes (visit (readLine lineLayer) h) out marks out′ marks′ → (line : List ℕ) → line ≡ bytesAt out′ n
-        → _≡_ {A = Reading} (record { line = line; mark = getD marks′ n 0 }) (inBytes (cellAt (afterRow rows columns lines rowTable (n / columns)) n))
+        → length marks′ ≡ rows * columns → Becomes (visit (readLine lineLayer) h) out marks out′ marks′ → (line : List ℕ)
+        → line ≡ bytesAt out′ n
+        → _≡_ {A = Reading} (record { line = line; mark = getD marks′ n 0 })
+        (inBytes (cellAt (afterRow rows columns lines rowTable (n / columns)) n))
     unfolding after placesAt
     given-visited out′ marks′ h e long b =
-        given out′ marks′ long (b .store ∙ ap (λ (k : Group). visit (readLine lineLayer) k (storeIn out marks)) e) (go (b .bytes n (omega (arith, w .inside))))
+        given out′ marks′ long (b .store ∙ ap (λ (k : Group). visit (readLine lineLayer) k (storeIn out marks)) e)
+        (go (b .bytes n (omega (arith, w .inside))))
       where
         go : Untouched out marks out′ marks′ n ⊎ Mended out marks out′ marks′ n → bytesAt out′ n ≡ lineOf (places (bytesAt out′ n))
         go (inl u) = u .bytes ∙ clean ∙ ap (λ (l : List ℕ). lineOf (places l)) (sym (u .bytes))

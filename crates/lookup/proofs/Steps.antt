@@ -1,14 +1,13 @@
 -- The steps of a read of one line: which is the last, and what the line found by it comes to for the caller.
 use mathlib.Core.Path.{_≡_, refl, sym, ap, ap₂, _∙_}
 use mathlib.Core.Bool.{true, cond}
-use mathlib.Core.List.{List, [], _++_, append-nil}
-use Prim.Native.Nat.{ℕ, zero, suc, _*_, _/_, _<_}
-use native.Mathlib.Nat.{zero-mul}
+use mathlib.Core.List.{List, _++_, append-nil}
+use Prim.Native.Nat.{ℕ, _*_, _/_, _<_}
 use native.Mathlib.Omega.{arith}
 use borrow.Author.Tests.{eq-eqb, ne-eqb}
 use lib.Dec.{eqb}
-use lib.ListN.{length, take, drop, getD, drop-of-length-le}
-use Rattle.linecode.specs.Places.{lineBytes, lineOf}
+use lib.ListN.{length, getD, drop-of-length-le}
+use Rattle.linecode.specs.Places.{lineBytes}
 use Rattle.linecode.specs.declared.alone.Reading.{Reading}
 use Rattle.scheme.specs.Layer.{Cell}
 use Rattle.scheme.specs.Visit.{cellAt}
@@ -20,13 +19,15 @@ use Rattle.lookup.proofs.Cells.{alone-final, row-final, repaired-line, 
 use Rattle.lookup.proofs.Refusing.{OnePass, one-passes}
 
 -- ---- each step that is the last gives the line of the whole repair
-module _ (rows columns : ℕ) (lines rowTable columnTable : List ℕ) (sides : sidesFit rows columns ≡ true) (n : ℕ) (inside : n < rows * columns)
+module _ (rows columns : ℕ) (lines rowTable columnTable : List ℕ) (sides : sidesFit rows columns ≡ true) (n : ℕ)
+    (inside : n < rows * columns)
     (alone : Reading) (alone-is : alone ≡ inBytes (aloneAt lines n)) where
   alone-mark : alone .mark ≡ aloneAt lines n .mark
   alone-mark = ap (λ (r : Reading). r .mark) alone-is
 
   pub found-alone : (alone .mark ≡ 4 → ⊥)
-      → (1 ≡ lastStep rows columns lines rowTable n) × (alone ≡ inBytes (cellAt (repaired rows columns lines rowTable columnTable .cells) n))
+      → (1 ≡ lastStep rows columns lines rowTable n)
+      × (alone ≡ inBytes (cellAt (repaired rows columns lines rowTable columnTable .cells) n))
   unfolding lastStep
   found-alone d =
       let whole : aloneAt lines n .mark ≡ 4 → ⊥ = λ e. d (alone-mark ∙ e) in (
@@ -44,7 +45,8 @@ module _ (rows columns : ℕ) (lines rowTable columnTable : List ℕ) (sides : s
     visited-mark = ap (λ (r : Reading). r .mark) visited-is
 
     pub found-by-row : (visited .mark ≡ 4 → ⊥)
-        → (2 ≡ lastStep rows columns lines rowTable n) × (visited ≡ inBytes (cellAt (repaired rows columns lines rowTable columnTable .cells) n))
+        → (2 ≡ lastStep rows columns lines rowTable n)
+        × (visited ≡ inBytes (cellAt (repaired rows columns lines rowTable columnTable .cells) n))
     unfolding lastStep after
     found-by-row d =
         let whole : after .mark ≡ 4 → ⊥ = λ e. d (visited-mark ∙ e) in (
@@ -63,7 +65,8 @@ module _ (rows columns : ℕ) (lines rowTable columnTable : List ℕ) (work : Bu
     (n : ℕ) (inside : n < rows * columns) where
   pub given-repaired : (out marks line : List ℕ) → out ≡ repairIn rows columns lines rowTable columnTable work .lines
       → marks ≡ repairIn rows columns lines rowTable columnTable work .marks → line ≡ bytesAt out n
-      → _≡_ {A = Reading} (record { line = line; mark = getD marks n 0 }) (inBytes (cellAt (repaired rows columns lines rowTable columnTable .cells) n))
+      → _≡_ {A = Reading} (record { line = line; mark = getD marks n 0 })
+      (inBytes (cellAt (repaired rows columns lines rowTable columnTable .cells) n))
   given-repaired out marks line e f g =
       ap₂ (λ (x : List ℕ) (y : ℕ). record { line = x; mark = y })
       (g ∙ ap (λ (b : List ℕ). bytesAt b n) e ∙ repaired-line rows columns lines rowTable columnTable work passes n inside)
@@ -99,7 +102,8 @@ module _ (rows columns : ℕ) (lines rowTable columnTable : List ℕ) (n : ℕ) 
       p = one-passes rows columns lines rowTable columnTable n work line none
 
       mark-is : read .mark ≡ getD (repairIn rows columns lines rowTable columnTable work .marks) n 0
-      mark-is = ap (λ (x : Reading). x .mark) read-is ∙ sym (repaired-mark rows columns lines rowTable columnTable work (p .ofRepair) n (p .inside))
+      mark-is = ap (λ (x : Reading). x .mark) read-is
+          ∙ sym (repaired-mark rows columns lines rowTable columnTable work (p .ofRepair) n (p .inside))
 
       line-is : line′ ≡ bytesAt (repairIn rows columns lines rowTable columnTable work .lines) n
       line-is =

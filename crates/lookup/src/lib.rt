@@ -3,11 +3,10 @@ ghost use mathlib.Core.Path.{_≡_};
 ghost use mathlib.Core.Bool.{cond};
 ghost use Prim.Native.Nat.{_*_, _/_, _<_};
 ghost use lib.Dec.{eqb};
-ghost use lib.ListN.{length};
 ghost use Rattle.scheme.specs.Visit.{cellAt};
 ghost use Rattle.rectangle.specs.Store.{inBytes};
 ghost use Rattle.rectangle.specs.Refusals.{repairRefusal};
-ghost use Rattle.rectangle.specs.Repair.{Buffers, repaired};
+ghost use Rattle.rectangle.specs.Repair.{repaired};
 ghost use Rattle.lookup.specs.Lookup.{afterRow, lastStep, oneRefusal, zeroed, OneRead, readOne};
 ghost use Rattle.lookup.specs.Lent.{Readable, ReadAlone, Wanted};
 use groups::tracked::Which;
@@ -109,7 +108,8 @@ fn by_repair(
         (now out) (now marks) (now «row_out») (now «column_out») ≡ 0 ⌝ }
     requires inside { ⌜ n < rows * columns ⌝ }
     ensures { λ r. ⌜ r
-        ≡ inBytes (cellAt (repaired rows columns (now (lines .entry)) (now («row_table» .entry)) (now («column_table» .entry)) .cells) n) ⌝ }
+        ≡ inBytes (cellAt (repaired rows columns (now (lines .entry)) (now («row_table» .entry))
+        (now («column_table» .entry)) .cells) n) ⌝ }
 {
     repair::repair(
         rows,
@@ -146,7 +146,8 @@ fn find(
     requires inside { ⌜ n < rows * columns ⌝ }
     ensures { λ r. ⌜ (r .step ≡ lastStep rows columns (now (lines .entry)) (now («row_table» .entry)) n)
         × (r .read
-        ≡ inBytes (cellAt (repaired rows columns (now (lines .entry)) (now («row_table» .entry)) (now («column_table» .entry)) .cells) n)) ⌝ }
+        ≡ inBytes (cellAt (repaired rows columns (now (lines .entry)) (now («row_table» .entry))
+        (now («column_table» .entry)) .cells) n)) ⌝ }
 {
     let alone = alone::read_line(lines::line_at(lines, n));
     if alone.mark != 4 {

@@ -39,7 +39,8 @@ module _ (a b c d e f : List ℕ) (same : length d ≡ length b) where
           })
       go (inr p) (inr q) = let z : ⊥ = omega (arith, p .is, q .was) in absurd z
 
-  pub becomes-then : (first second : State → State) → Becomes first a b c d → Becomes second c d e f → Becomes (λ s. second (first s)) a b e f
+  pub becomes-then : (first second : State → State) → Becomes first a b c d → Becomes second c d e f
+      → Becomes (λ s. second (first s)) a b e f
   becomes-then first second p q =
       record { store = q .store ∙ ap second (p .store); bytes = mended-then (p .bytes) (q .bytes) }
 
@@ -51,9 +52,11 @@ module _ (out marks : List ℕ) (room : length out ≡ length marks * 70) (n : �
   line-mended k h = go (ℕ-discrete k n)
     where
       go : Dec (k ≡ n)
-          → Untouched out marks (putBytes out n (lineOf w)) (set marks n m) k ⊎ Mended out marks (putBytes out n (lineOf w)) (set marks n m) k
+          → Untouched out marks (putBytes out n (lineOf w)) (set marks n m) k
+          ⊎ Mended out marks (putBytes out n (lineOf w)) (set marks n m) k
       go (yes p) =
-          subst (λ (i : ℕ). Untouched out marks (putBytes out n (lineOf w)) (set marks n m) i ⊎ Mended out marks (putBytes out n (lineOf w)) (set marks n m) i) (sym p)
+          subst (λ (i : ℕ). Untouched out marks (putBytes out n (lineOf w)) (set marks n m) i
+          ⊎ Mended out marks (putBytes out n (lineOf w)) (set marks n m) i) (sym p)
           (inr (record {
             was = bad;
             is = subst (λ (x : ℕ). x < 4) (sym (getD-set-same marks n m 0 inside)) low;

@@ -1,13 +1,13 @@
 -- The ways out of a visit's two halves, on the buffers.
-use mathlib.Core.Path.{_≡_, refl, sym, ap, ap₂, _∙_, subst}
+use mathlib.Core.Path.{_≡_, sym, ap, ap₂, _∙_, subst}
 use mathlib.Core.List.{List}
-use Prim.Native.Nat.{ℕ, _+_, _*_, _/_, _≤_, _<_}
+use Prim.Native.Nat.{ℕ, _*_, _/_, _≤_, _<_}
 use native.Mathlib.Omega.{arith}
 use lib.ListN.{length, take, getD, set}
 use Rattle.gf2.specs.Word.{Word, _⊕_}
 use Rattle.linecode.specs.Places.{linePlaces, places, lineOf}
 use Rattle.scheme.specs.Layer.{Cell, readLine}
-use Rattle.scheme.specs.Visit.{Group, State, cellAt, lineAt, faultyOf, sum, setPlaces, settle, tryLines, trial}
+use Rattle.scheme.specs.Visit.{Group, State, lineAt, faultyOf, sum, setPlaces, settle, tryLines, trial}
 use Rattle.scheme.specs.Demand3.{_∈_}
 use Rattle.rectangle.specs.Store.{lineLayer, bytesAt, placesAt, putBytes, stride}
 use Rattle.rectangle.proofs.Spare.{length-places}
@@ -35,7 +35,8 @@ lent-lines out marks first step count l = subst (Inside first step count) lines 
     lines : length marks ≡ length out / 70
     lines = omega (arith, l .room)
 
-module _ (out marks : List ℕ) (first step count : ℕ) (l : Lent out marks first step count) (parity : List ℕ) (full : length parity ≡ 70) where
+module _ (out marks : List ℕ) (first step count : ℕ) (l : Lent out marks first step count) (parity : List ℕ)
+    (full : length parity ≡ 70) where
   g : Group
   g = groupAt first step count parity
 
@@ -105,11 +106,13 @@ module _ (out marks : List ℕ) (first step count : ℕ) (l : Lent out marks fir
             → out′ ≡ putBytes out n new → Becomes (settle (groupAt first step count parity)) out marks out′ (set marks n 3)
         unfolding g s placesAt
         rebuilt line new out′ wide line-is new-is put =
-            subst (λ (b : List ℕ). Becomes (settle g) out marks b (set marks n 3)) (sym (put ∙ ap (putBytes out n) (new-is ∙ ap lineOf word-is)))
+            subst (λ (b : List ℕ). Becomes (settle g) out marks b (set marks n 3))
+            (sym (put ∙ ap (putBytes out n) (new-is ∙ ap lineOf word-is)))
             (record {
               store =
                   store-mended out marks (l .room) n only-inside (member .1) word long 3 (omega arith)
-                  ∙ settled g s n (sym (store-faulty out marks (stride first step count)) ∙ only-faulty-line marks (stride first step count) only n n-is);
+                  ∙ settled g s n (sym (store-faulty out marks (stride first step count))
+                  ∙ only-faulty-line marks (stride first step count) only n n-is);
               bytes = line-mended out marks (l .room) n only-inside (member .1) word long 3 (omega arith);
             })
           where

@@ -1,7 +1,7 @@
 -- The store that a line and a mark buffer hold: its lines and marks, and what writing one line with its mark leaves.
-use mathlib.Core.Path.{_≡_, refl, sym, ap, ap₂, _∙_, fun-ext}
+use mathlib.Core.Path.{_≡_, sym, ap, ap₂, _∙_, fun-ext}
 use mathlib.Core.Bool.{Bool}
-use mathlib.Core.List.{List, [], map}
+use mathlib.Core.List.{List, []}
 use Prim.Native.Nat.{ℕ, _*_, _≤_, _<_}
 use native.Mathlib.Nat.{zero-add}
 use native.Mathlib.Decide.{ℕ-discrete, decLe}
@@ -10,10 +10,10 @@ use lib.Dec.{eqb}
 use lib.ListN.{length, getD, set, length-map, length-set, List·getD-eq-default}
 use lib.Seq.{getD-set-same, getD-set-other, ext-getD}
 use Rattle.gf2.specs.Word.{Word}
-use Rattle.linecode.specs.Places.{linePlaces, lineBytes, places, lineOf}
+use Rattle.linecode.specs.Places.{linePlaces, lineBytes, places}
 use Rattle.linecode.specs.Code.{upFrom}
 use Rattle.scheme.specs.Layer.{Cell}
-use Rattle.scheme.specs.Visit.{State, cellAt, lineAt, select, faultyOf, sum}
+use Rattle.scheme.specs.Visit.{cellAt, lineAt, select, faultyOf, sum}
 use Rattle.scheme.specs.Demand3.{_∈_}
 use Rattle.scheme.proofs.Sums.{sum-ext}
 use Rattle.rectangle.specs.Store.{placesAt, bytesAt, putBytes}
@@ -42,7 +42,8 @@ module _ (out marks : List ℕ) where
     where
       go : Dec (length marks ≤ n) → cellAt (storeIn out marks) n .mark ≡ getD marks n 0
       go (yes p) =
-          ap (λ (c : Cell). c .mark) (List·getD-eq-default (storeIn out marks) (record { line = []; mark = 0 }) (omega (arith, store-length)))
+          ap (λ (c : Cell). c .mark) (List·getD-eq-default (storeIn out marks) (record { line = []; mark = 0 })
+          (omega (arith, store-length)))
           ∙ sym (List·getD-eq-default marks 0 p)
       go (no q) = ap (λ (c : Cell). c .mark) (store-at n (omega arith))
 
@@ -71,7 +72,8 @@ module _ (out marks : List ℕ) (room : length out ≡ length marks * 70) where
     pub put-elsewhere : (k : ℕ) → k < length marks → (k ≡ n → ⊥) → bytesAt (putBytes out n line) k ≡ bytesAt out k
     put-elsewhere k h d = bytesAt-still (length marks) out whole n inside line (full ∙ sym bytes-is) k h d
 
-    pub store-put : (m : ℕ) → storeIn (putBytes out n line) (set marks n m) ≡ set (storeIn out marks) n (record { line = places line; mark = m })
+    pub store-put : (m : ℕ) → storeIn (putBytes out n line) (set marks n m) ≡ set (storeIn out marks) n
+        (record { line = places line; mark = m })
     unfolding placesAt
     store-put m =
         ext-getD (record { line = []; mark = 0 }) (storeIn (putBytes out n line) (set marks n m)) (set (storeIn out marks) n new)

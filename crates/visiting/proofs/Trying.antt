@@ -52,7 +52,8 @@ module _ (out₀ marks₀ : List ℕ) (first step count : ℕ) (ps out marks : L
   pub trying-end : count ≤ i → Becomes (λ s. tryLines (readLine lineLayer) ps s (stride first step count)) out₀ marks₀ out marks
   trying-end h =
       record {
-        store = sym (t .store ∙ ap (tryLines (readLine lineLayer) ps (storeIn out marks)) (left-none first step count (length marks) n i (t .walk) h));
+        store = sym (t .store ∙ ap (tryLines (readLine lineLayer) ps (storeIn out marks))
+            (left-none first step count (length marks) n i (t .walk) h));
         bytes = t .bytes;
       }
 
@@ -74,14 +75,16 @@ module _ (out₀ marks₀ : List ℕ) (first step count : ℕ) (ps out marks : L
           same-out = t .same-out;
           same-marks = t .same-marks;
           store =
-              t .store ∙ ap (tryLines (readLine lineLayer) ps (storeIn out marks)) (left-some first step count (length marks) n i (t .walk) more) ∙ e;
+              t .store ∙ ap (tryLines (readLine lineLayer) ps (storeIn out marks))
+              (left-some first step count (length marks) n i (t .walk) more) ∙ e;
           bytes = t .bytes;
         }
 
     -- a line that is not faulty
     pub trying-other : (getD marks n 0 ≡ 4 → ⊥) → Trying out₀ marks₀ first step count ps out marks (n + step) (i + 1)
     trying-other q =
-        still (turn-other ps (storeIn out marks) n later (λ (z : cellAt (storeIn out marks) n .mark ≡ 4). q (sym (store-mark out marks n) ∙ z)))
+        still (turn-other ps (storeIn out marks) n later
+        (λ (z : cellAt (storeIn out marks) n .mark ≡ 4). q (sym (store-mark out marks n) ∙ z)))
 
     module _ (bad : getD marks n 0 ≡ 4) (line : List ℕ) (line-is : line ≡ bytesAt out n) where
       own-line : cellAt (storeIn out marks) n .line ≡ places line
@@ -104,16 +107,19 @@ module _ (out₀ marks₀ : List ℕ) (first step count : ℕ) (ps out marks : L
       unfolding later
       trying-mended w read out′ long e put same f =
           record {
-            walk = subst (λ (k : ℕ). Walking first step count k (n + step) (i + 1)) (sym (length-set marks n 2)) (walk-next first step count (length marks) n i (t .walk) more);
+            walk = subst (λ (k : ℕ). Walking first step count k (n + step) (i + 1)) (sym (length-set marks n 2))
+                (walk-next first step count (length marks) n i (t .walk) more);
             room = same ∙ t .room ∙ ap (λ (k : ℕ). k * 70) (sym (length-set marks n 2));
             same-out = same ∙ t .same-out;
             same-marks = length-set marks n 2 ∙ t .same-marks;
             store =
                 t .store
                 ∙ ap (tryLines (readLine lineLayer) ps (storeIn out marks)) (left-some first step count (length marks) n i (t .walk) more)
-                ∙ turn-tried ps (storeIn out marks) n later own-mark (record { line = w; mark = 2 }) (f (cellAt (storeIn out marks) n) own-line)
+                ∙ turn-tried ps (storeIn out marks) n later own-mark (record { line = w; mark = 2 })
+                (f (cellAt (storeIn out marks) n) own-line)
                 ∙ ap (λ (s : State). tryLines (readLine lineLayer) ps s later)
-                (sym (ap (λ (b : List ℕ). storeIn b (set marks n 2)) put-is ∙ store-mended out marks (t .room) n below bad w long 2 (omega arith)));
+                (sym (ap (λ (b : List ℕ). storeIn b (set marks n 2)) put-is
+                ∙ store-mended out marks (t .room) n below bad w long 2 (omega arith)));
             bytes =
                 mended-then out₀ marks₀ out marks out′ (set marks n 2) (t .same-marks) (t .bytes)
                 (subst (λ (b : List ℕ). MendedAlone out marks b (set marks n 2)) (sym put-is)

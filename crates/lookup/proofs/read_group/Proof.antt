@@ -2,8 +2,8 @@
 use native.Mathlib.Omega.{arith}
 use Prim.Native.Nat.{_-_}
 use Rattle.rectangle.proofs.LineLayer.{read-at}
-use Rattle.groups.proofs.Walk.{walk-in, walk-small}
-use Rattle.lookup.proofs.Group.{Filling, filling-start, below, filling-next, refill, filling-end}
+use Rattle.groups.proofs.Walk.{walk-small}
+use Rattle.lookup.proofs.Group.{Filling, filling-start, below, filling-next, filling-end}
 use Rattle.lookup.proofs.read_group.Statement.{statement}
 use Rattle.lookup.proofs.read_group.Tie as tie
 

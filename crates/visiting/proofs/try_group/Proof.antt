@@ -1,5 +1,4 @@
 -- `visiting::try_group` meets its contract: each way out is a case of the trials.
-use native.Mathlib.Omega.{arith}
 use borrow.Author.Needs.{needs}
 use Rattle.linecode.proofs.Bytes.{array-length}
 use Rattle.visiting.proofs.Cases.{lent-lines, few-faulty, no-mismatch, many-places, places-tried}
