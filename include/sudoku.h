@@ -183,13 +183,15 @@ uint32_t sudoku_repair(size_t rows, size_t columns, const uint8_t *lines, size_t
 
 /*
  * Reads line `n` as repair gives it, without repairing more than it takes. The line is read alone. If it is faulty, its row is
- * visited as repair does: the row's lines and its parity line are read alone, and the line is mended by trial or rebuilt from them,
- * unless that parity line is faulty. Only if the line is faulty still, the whole rectangle is repaired.
+ * visited as repair does: the row's lines and its parity line are read alone, and the line is mended by trial or rebuilt from them
+ * where they suffice; if that parity line is faulty, the visit does nothing. Only if the line is faulty still, the whole rectangle is
+ * repaired.
  *
  * Writes the line into `line`, 70 bytes with spare bits 0, and sets `mark` and `step`, the last step taken: 1, 2 or 3. Line and mark
  * are those that sudoku_repair gives for this line, also where that answers 11 or 12. Lines and tables that are handed in stay as
  * they are. `out`, `marks`, `row_out` and `column_out` have the lengths that repair's have and serve as room to work in: what they
- * hold before does not matter, and after 0 and 11 they are all zero. Clearing them takes most of the time in steps 1 and 2.
+ * hold before does not matter, and after 0 and 11 they are all zero. Clearing them takes time for each of their bytes, whatever the
+ * step; at 512 by 512 lines that is nearly all of steps 1 and 2.
  *
  * Answers: 0; 11 exactly if this line stays faulty: `line` is then the line as found, and the mark is 4. Never 12, and not 11 for
  * other lines. 2; 5; 6 if one of the four tables has another length; 7 if `out_len` or `marks_len` is another, or `line_len` is not

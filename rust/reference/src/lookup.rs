@@ -16,7 +16,7 @@ pub struct One {
 }
 
 /// Reads line `n` into `line`: alone, then by its row's visit, then by the whole
-/// repair, until it is whole. The work buffers are all zero afterwards.
+/// repair, until it is whole. The work buffers are all zero after 0 and 11.
 ///
 /// Refusals: 2, 5, 6 (any table, lent to work in too), 7 (lines and marks to
 /// work in, the line written), 8. With 11 the line is still written, as found.
@@ -75,7 +75,9 @@ pub fn read_one(
 }
 
 /// Line n and its mark after its row's visit. Only the row's own lines and its
-/// parity line are looked at, and the lines are numbered by their columns.
+/// parity line are looked at, and the lines are numbered by their columns here:
+/// a line's number doesn't enter its reading today. Whoever makes it matter has
+/// to hand over the true numbers.
 fn after_row(columns: usize, lines: &[u8], row_table: &[u8], n: usize) -> (Line, u8) {
     let (row, column) = (n / columns, n % columns);
     let width = columns * LINE_BYTES;

@@ -1,5 +1,7 @@
 //! One line wanted, as request Q-4 words it.
 
+// Of these three only a part serves here: the visit of a row stated anew, drawn
+// calls and the list of refusals, repairs worked out by hand.
 #[allow(dead_code)]
 mod q1;
 #[allow(dead_code)]

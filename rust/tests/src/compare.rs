@@ -90,7 +90,7 @@ fn buffers(entry: Entry, call: &Call) -> (Vec<&[u8]>, usize) {
     }
 }
 
-/// Makes the call over these buffers.
+/// Makes the call over these buffers, as [`buffers`] orders them.
 fn make(entry: Entry, call: &Call, on: &dyn Interface, buffers: &mut [&mut [u8]]) -> Numbers {
     let (rows, columns) = (call.rows, call.columns);
     let mut given = Numbers::default();
@@ -111,27 +111,32 @@ fn make(entry: Entry, call: &Call, on: &dyn Interface, buffers: &mut [&mut [u8]]
             let out = lent([out, marks, row_out, column_out]);
             (given.answer, given.value) = on.repair(rows, columns, lines, of_rows, of_columns, out);
         }
-        (
-            Entry::One,
-            [
-                line,
-                out,
-                marks,
-                row_out,
-                column_out,
-                lines,
-                of_rows,
-                of_columns,
-            ],
-        ) => {
-            let (n, work) = (call.n, lent([out, marks, row_out, column_out]));
-            let (answer, mark, step) =
-                on.read_one(rows, columns, lines, of_rows, of_columns, n, work, line);
-            (given.answer, given.value, given.step) = (answer, mark.into(), step);
-        }
+        (Entry::One, [line, of_repair @ ..]) => given = read_one(call, on, line, of_repair),
         _ => panic!("{entry:?} has other buffers"),
     };
     given
+}
+
+/// Reads one line over the line's own buffer and those of a repair.
+fn read_one(
+    call: &Call,
+    on: &dyn Interface,
+    line: &mut [u8],
+    of_repair: &mut [&mut [u8]],
+) -> Numbers {
+    let [out, marks, row_out, column_out, lines, of_rows, of_columns] = of_repair else {
+        panic!("a read of one line has other buffers");
+    };
+    let (rows, columns, n) = (call.rows, call.columns, call.n);
+    let work = lent([out, marks, row_out, column_out]);
+    let (answer, mark, step) =
+        on.read_one(rows, columns, lines, of_rows, of_columns, n, work, line);
+    Numbers {
+        answer,
+        value: mark.into(),
+        step,
+        ..Numbers::default()
+    }
 }
 
 /// Lines, marks and both tables, to be written.
@@ -186,12 +191,19 @@ pub fn compare(entry: Entry, call: &Call, shift: usize) -> Numbers {
             "differ"
         },
     );
+    expect_allowed(entry, call, &library);
+    library.numbers
+}
+
+/// What was given is what the entry point may give: its answer is one of the
+/// list, and what that answer leaves alone is as before or 0.
+fn expect_allowed(entry: Entry, call: &Call, given: &Given) {
     let Numbers {
         answer,
         value,
         number,
         step,
-    } = library.numbers;
+    } = given.numbers;
     assert!(
         entry.answers().contains(&answer),
         "{entry:?} may not answer {answer}"
@@ -205,7 +217,7 @@ pub fn compare(entry: Entry, call: &Call, shift: usize) -> Numbers {
     for (i, content) in before.into_iter().enumerate() {
         let may_change = writes && i < written;
         assert!(
-            may_change || library.buffers[i] == content,
+            may_change || given.buffers[i] == content,
             "{entry:?}, answer {answer}: buffer {i} was written"
         );
     }
@@ -226,5 +238,4 @@ pub fn compare(entry: Entry, call: &Call, shift: usize) -> Numbers {
         steps.contains(&step),
         "{entry:?}, answer {answer}: step {step}"
     );
-    library.numbers
 }

@@ -123,19 +123,19 @@ pub fn repairs_by_hand() -> impl Iterator<Item = q3::Case> {
     q3::all().chain(places)
 }
 
-/// Every line of these repairs is the one that repair gives, with its mark.
+/// Every line of these repairs is the one that repair gives, with its mark. The
+/// step follows from the row's visit, stated anew.
 pub fn expect_repairs(cases: impl Iterator<Item = q3::Case>, read_one: impl Fn(&Call) -> Given) {
     let mut random = Random::new(41);
+    let mut seen = Seen::default();
     for case in cases {
         let (rows, columns) = case.sides;
         let written = Store::random(&mut random, rows, columns);
         let (found, repaired) = (case.hurt(&written), case.expected(&written));
         for n in 0..found.count() {
             let call = call_for(&mut random, &found, n);
-            let given = read_one(&call);
-            let line = nth(&repaired.lines, n);
-            let due = whole(&call, (given.step, repaired.marks[n]), line);
-            expect(&given, &due, &format!("{}, line {n}", case.says));
+            let after_row = || faulty_after_row(&found, n / columns);
+            seen.check_line(&case.says, &call, &read_one(&call), &repaired, after_row);
         }
     }
 }
@@ -277,7 +277,8 @@ impl Seen {
         }
         let store = store_of(call);
         let row = call.n / call.columns;
-        self.check_line(call, given, repaired, || faulty_after_row(&store, row));
+        let after_row = || faulty_after_row(&store, row);
+        self.check_line("drawn", call, given, repaired, after_row);
     }
 
     /// Every line of a store by the same words; gives how many there are.
@@ -299,7 +300,7 @@ impl Seen {
                         .get_or_insert_with(|| faulty_after_row(store, row))
                         .clone()
                 };
-                self.check_line(&call, &read_one(&call), &repaired, faulty);
+                self.check_line("drawn", &call, &read_one(&call), &repaired, faulty);
             }
         }
         store.count()
@@ -309,6 +310,7 @@ impl Seen {
     /// the visit of its row, by repair stated anew.
     fn check_line(
         &mut self,
+        what: &str,
         call: &Call,
         given: &Given,
         repaired: &Outcome,
@@ -323,7 +325,7 @@ impl Seen {
         };
         let due = whole(call, (step, mark), nth(&repaired.lines, n));
         let sides = (call.rows, call.columns);
-        expect(given, &due, &format!("sides {sides:?}, line {n}"));
+        expect(given, &due, &format!("{what}, sides {sides:?}, line {n}"));
 
         self.steps[step as usize][usize::from(mark)] += 1;
         let answers = [0, 11, 12];

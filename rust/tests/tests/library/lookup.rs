@@ -71,13 +71,13 @@ fn read_one_of_store(call: &Call) -> q4::Given {
 }
 
 /// Of many cases a memory checker is shown every 29th.
-fn step() -> usize {
+fn stride() -> usize {
     if watched() { 29 } else { 1 }
 }
 
 #[test]
 fn lines_worked_out_by_hand() {
-    let all = || q4::all().step_by(step());
+    let all = || q4::all().step_by(stride());
     for on in both() {
         q4::expect_cases(all(), |call| read_one(on, call), |call| repair(on, call));
     }
@@ -86,7 +86,7 @@ fn lines_worked_out_by_hand() {
 
 #[test]
 fn lines_of_repairs_worked_out_by_hand() {
-    let all = || q4::repairs_by_hand().step_by(step());
+    let all = || q4::repairs_by_hand().step_by(stride());
     for on in both() {
         q4::expect_repairs(all(), |call| read_one(on, call));
     }
@@ -122,7 +122,7 @@ fn every_line_of_small_stores() {
     let mut count = 0;
     let with_ways = |sides| Damage::ALL.map(|way| (sides, way));
     let all = q4::small_sides().into_iter().flat_map(with_ways);
-    for (sides, way) in all.step_by(step()) {
+    for (sides, way) in all.step_by(stride()) {
         for _ in 0..cases(10) {
             let store = q4::hurt_store(&mut random, sides, way);
             count += every_line(&mut random, &store, &mut seen);
