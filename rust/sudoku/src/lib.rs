@@ -29,6 +29,9 @@
 //! let repaired = store.repair();
 //! assert_eq!(repaired.marks[3], Mark::Rebuilt);
 //! assert_eq!(repaired.store.read(3)?.data(), captions[3]);
+//!
+//! // Where only this caption is wanted, a read of one line gives it.
+//! assert_eq!(store.read_one(3)?.whole()?, captions[3]);
 //! # Ok::<(), sudoku::Answer>(())
 //! ```
 //!
@@ -44,8 +47,8 @@
 //!   repository's README says what holds beyond that.
 //! - A line that [`Store::read_one`] gives with another mark than
 //!   [`Mark::Faulty`] is a correct line, and within the same bounds the one
-//!   written. That lines and tables disagree ([`Answer::Differs`]) it doesn't
-//!   tell.
+//!   written; [`One::whole`] gives the data of no other. That lines and tables
+//!   disagree ([`Answer::Differs`]) it doesn't tell.
 //! - Lines and tables of zero bytes are a valid store, the one that
 //!   [`Store::new`] gives: cleared memory can't be told from empty captions.
 //! - After [`Answer::RowParity`] or [`Answer::ColumnParity`], which only a change

@@ -44,6 +44,35 @@ pub struct One {
     pub step: Step,
 }
 
+impl One {
+    /// The line's 64 data bytes, unless it stays faulty: no damaged text is
+    /// shown by mistake.
+    ///
+    /// ```
+    /// use sudoku::{Answer, Store};
+    /// let mut store = Store::new(2, 2)?;
+    ///
+    /// // All four lines are hurt alike: nothing can mend them.
+    /// for n in 0..4 {
+    ///     store.lines_mut()[n * sudoku::LINE_BYTES] ^= 3;
+    /// }
+    /// let one = store.read_one(3)?;
+    /// assert_eq!(one.whole(), Err(Answer::Left));
+    /// assert_eq!(one.read.data()[0], 3);
+    /// # Ok::<(), Answer>(())
+    /// ```
+    ///
+    /// # Errors
+    ///
+    /// [`Answer::Left`] if the line stays faulty. As found it stands in `read`.
+    pub fn whole(&self) -> Result<[u8; DATA_BYTES], Answer> {
+        if self.read.is_faulty() {
+            return Err(Answer::Left);
+        }
+        Ok(self.read.data())
+    }
+}
+
 impl Store {
     /// A store of zero data. All its bytes are zero, and it is a valid store.
     ///
@@ -326,8 +355,9 @@ impl Store {
     /// store stays as it is.
     ///
     /// A line that nothing can mend is no error here: its mark says so, and it
-    /// is as found. Nor is it one that other lines stay faulty, or that lines
-    /// don't agree with the tables: of that only [`Store::repair`] tells.
+    /// is as found. [`One::whole`] makes an error of it. That other lines stay
+    /// faulty, or that lines don't agree with the tables, is no error either: of
+    /// that only [`Store::repair`] tells.
     ///
     /// Each call allocates room for a repair, as much as the store itself.
     /// Where many lines are wanted, [`c::read_one`] takes buffers that are kept.
@@ -341,13 +371,13 @@ impl Store {
     /// store.lines_mut()[3 * sudoku::LINE_BYTES] ^= 3;
     /// let one = store.read_one(3)?;
     /// assert_eq!((one.step, one.read.mark), (Step::Row, Mark::Rebuilt));
-    /// assert_eq!(one.read.data(), captions[3]);
+    /// assert_eq!(one.whole()?, captions[3]);
     ///
     /// // So do the same two of line 2: now only the columns tell them apart.
     /// store.lines_mut()[2 * sudoku::LINE_BYTES] ^= 3;
     /// let one = store.read_one(3)?;
     /// assert_eq!((one.step, one.read.mark), (Step::Repair, Mark::Rebuilt));
-    /// assert_eq!(one.read.data(), captions[3]);
+    /// assert_eq!(one.whole()?, captions[3]);
     ///
     /// // The lines above them need no more than a reading.
     /// assert_eq!(store.read_one(0)?.step, Step::Alone);

@@ -132,6 +132,33 @@ fn bad_input_comes_back_as_an_answer() {
 }
 
 #[test]
+fn data_of_one_line_that_is_whole() {
+    let data = [[1; 64], [2; 64], [3; 64], [4; 64], [5; 64], [6; 64]];
+    let mut store = Store::from_data(2, 3, &data).expect("two by three");
+    let whole = |store: &Store, n: usize| {
+        let one = store.read_one(n).expect("a line");
+        (one.step, one.read.mark, one.whole())
+    };
+    assert_eq!(whole(&store, 5), (Step::Alone, Mark::Clean, Ok(data[5])));
+    store.lines_mut()[2 * LINE_BYTES] ^= 1;
+    let rewritten = (Step::Alone, Mark::Rewritten, Ok(data[2]));
+    assert_eq!(whole(&store, 2), rewritten);
+    store.lines_mut()[0] ^= 3;
+    assert_eq!(whole(&store, 0), (Step::Row, Mark::Rebuilt, Ok(data[0])));
+    store.lines_mut()[LINE_BYTES] ^= 12;
+    assert_eq!(whole(&store, 1), (Step::Row, Mark::Trial, Ok(data[1])));
+    // Lines 0, 1, 3 and 4 are now a ring, hurt alike; line 5 lies beside it.
+    for (n, flips) in [(1, 12 ^ 3), (3, 3), (4, 3), (5, 24)] {
+        store.lines_mut()[n * LINE_BYTES] ^= flips;
+    }
+    for n in [0, 1, 3, 4] {
+        let left = (Step::Repair, Mark::Faulty, Err(Answer::Left));
+        assert_eq!(whole(&store, n), left);
+    }
+    assert_eq!(whole(&store, 5).2, Ok(data[5]));
+}
+
+#[test]
 fn threads_call_at_once() {
     std::thread::scope(|scope| {
         for thread in 0..4 {
