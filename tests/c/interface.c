@@ -1,13 +1,16 @@
 /*
- * The C interface from C: samples, refusals, guard bytes, and how much stack each call takes. Prints what failed; the exit status
- * is 1 if anything did.
+ * The C interface from C: samples, refusals, guard bytes, what a read of one line looks at, and how much stack each call takes.
+ * Prints what failed; the exit status is 1 if anything did.
  */
 #define _POSIX_C_SOURCE 200809L
 #include <limits.h>
 #include <pthread.h>
+#include <signal.h>
 #include <stdio.h>
+#include <stdlib.h>
 #include <string.h>
 #include <sys/mman.h>
+#include <sys/wait.h>
 #include <unistd.h>
 
 #include "sudoku.h"
@@ -663,6 +666,24 @@ static void one_as_repair(void)
     put_back(&written);
 }
 
+/* Memory of whole pages, to be hidden or mapped twice: that of a file without a name. */
+static FILE *file_of(size_t bytes)
+{
+    FILE *file = tmpfile();
+
+    if (file == NULL || ftruncate(fileno(file), (off_t)bytes) == 0)
+        return file;
+    fclose(file);
+    return NULL;
+}
+
+static void *mapped(FILE *file, size_t bytes)
+{
+    void *memory = mmap(NULL, bytes, PROT_READ | PROT_WRITE, MAP_SHARED, fileno(file), 0);
+
+    return memory == MAP_FAILED ? NULL : memory;
+}
+
 /*
  * How deep a call goes: it is made on a stack that was painted before. The same memory is mapped a second time and looked at there,
  * since to a memory checker what lies below a thread's stack pointer is nobody's.
@@ -671,21 +692,14 @@ enum { STACK_BYTES = 512 * 1024, PAINT = 0x5C };
 
 static uint8_t *stack_made, *stack_seen;
 
-static void *mapped(FILE *file)
-{
-    void *memory = mmap(NULL, STACK_BYTES, PROT_READ | PROT_WRITE, MAP_SHARED, fileno(file), 0);
-
-    return memory == MAP_FAILED ? NULL : memory;
-}
-
 static int make_stack(void)
 {
-    FILE *file = tmpfile();
+    FILE *file = file_of(STACK_BYTES);
 
-    if (file == NULL || ftruncate(fileno(file), STACK_BYTES) != 0)
+    if (file == NULL)
         return 0;
-    stack_made = mapped(file);
-    stack_seen = mapped(file);
+    stack_made = mapped(file, STACK_BYTES);
+    stack_seen = mapped(file, STACK_BYTES);
     fclose(file);
     return stack_made != NULL && stack_seen != NULL;
 }
@@ -846,17 +860,25 @@ static void lose_big(void)
         big_lines[ring[i] * LINE] ^= 3;
 }
 
-static void make_big(void)
+/* Writes so many lines, most of them different. */
+static int write_lines(uint8_t *to, size_t count)
 {
     int written = 1;
 
-    for (size_t n = 0; n < BIG; n++) {
+    for (size_t n = 0; n < count; n++) {
         uint8_t data[SUDOKU_DATA_BYTES];
 
         for (size_t i = 0; i < sizeof data; i++)
             data[i] = (uint8_t)(n * 31 + i * 7 + n / 251);
-        written &= sudoku_write_line(data, sizeof data, big_lines + n * LINE, LINE) == SUDOKU_DONE;
+        written &= sudoku_write_line(data, sizeof data, to + n * LINE, LINE) == SUDOKU_DONE;
     }
+    return written;
+}
+
+static void make_big(void)
+{
+    const int written = write_lines(big_lines, BIG);
+
     big_tables();
     CHECK(written && big_answer == SUDOKU_DONE);
     memcpy(big_written, big_lines, sizeof big_written);
@@ -957,6 +979,155 @@ static void stack_depths(void)
     CHECK(takes_less(write_one, 2 * 1024) && big_answer == SUDOKU_DONE);
 }
 
+/*
+ * What a read of one line looks at. Lines and tables stand in pages of their own, and all those are hidden in which its step may look
+ * at nothing: a call that touches one is stopped. A child process makes the call, so that the checks go on where it is.
+ */
+enum { WIDE_ROWS = 3, WIDE = 128, WIDE_COUNT = WIDE_ROWS * WIDE, WANTED = WIDE + WIDE / 2 };
+
+/* Lines, row table and column table. */
+enum { PARTS = 3 };
+
+static const size_t part_bytes[PARTS] = {WIDE_COUNT * LINE, WIDE_ROWS * LINE, WIDE * LINE};
+static uint8_t wide_lines[WIDE_COUNT * LINE], wide_rows[WIDE_ROWS * LINE], wide_columns[WIDE * LINE], wide_hurt[WIDE_COUNT * LINE];
+static const uint8_t *const parts[PARTS] = {wide_hurt, wide_rows, wide_columns};
+static uint8_t *part_pages[PARTS];
+
+/* The bytes of each part that a step may look at: none at all, the line, its row with its parity line, everything. */
+static const struct range {
+    size_t first, end;
+} seen_by[4][PARTS] = {
+    {{0, 0}, {0, 0}, {0, 0}},
+    {{WANTED * LINE, (WANTED + 1) * LINE}, {0, 0}, {0, 0}},
+    {{WIDE * LINE, 2 * WIDE * LINE}, {LINE, 2 * LINE}, {0, 0}},
+    {{0, WIDE_COUNT * LINE}, {0, WIDE_ROWS * LINE}, {0, WIDE * LINE}},
+};
+
+/* How a child ends. */
+enum { RIGHT, WRONG, STOPPED };
+
+static size_t page_bytes(void)
+{
+    return (size_t)sysconf(_SC_PAGESIZE);
+}
+
+/* Room for a part wherever in its first page it starts. */
+static size_t room_for(size_t part)
+{
+    return (part_bytes[part] / page_bytes() + 2) * page_bytes();
+}
+
+static int make_parts(void)
+{
+    for (size_t part = 0; part < PARTS; part++) {
+        FILE *file = file_of(room_for(part));
+
+        if (file == NULL)
+            return 0;
+        part_pages[part] = mapped(file, room_for(part));
+        fclose(file);
+        if (part_pages[part] == NULL)
+            return 0;
+    }
+    return write_lines(wide_lines, WIDE_COUNT)
+        && sudoku_make_tables(WIDE_ROWS, WIDE, wide_lines, sizeof wide_lines, wide_rows, sizeof wide_rows, wide_columns,
+                              sizeof wide_columns) == SUDOKU_DONE;
+}
+
+/*
+ * Puts a part into its pages and hides those without a byte of the range. The range starts with a page, or ends with one: the byte
+ * before it is hidden once, and once the byte after it. Gives where the part stands.
+ */
+static const uint8_t *hide_but(size_t part, struct range range, int at_end)
+{
+    const size_t page = page_bytes(), edge = at_end ? range.end : range.first;
+    const size_t start = (page - edge % page) % page;
+    const size_t first = (start + range.first) / page * page, end = (start + range.end + page - 1) / page * page;
+    uint8_t *const pages = part_pages[part];
+
+    memcpy(pages + start, parts[part], part_bytes[part]);
+    if (mprotect(pages, room_for(part), PROT_NONE) != 0)
+        return NULL;
+    if (range.first < range.end && mprotect(pages + first, end - first, PROT_READ) != 0)
+        return NULL;
+    return pages + start;
+}
+
+/* A line that is wanted: the bits flipped in its first byte and in that of its row's last line, and what it comes to. */
+struct wanted {
+    uint8_t flipped, beside, step, mark;
+};
+
+/* What a child does: it reads the line, with only that shown which the step `shown` may look at. */
+static int read_hidden(struct wanted wanted, size_t shown, int at_end)
+{
+    const uint8_t *at[PARTS];
+    uint8_t mark = FILLING;
+    uint32_t step = (uint32_t)UNSET, answer;
+
+    for (size_t part = 0; part < PARTS; part++) {
+        at[part] = hide_but(part, seen_by[shown][part], at_end);
+        if (at[part] == NULL)
+            return WRONG;
+    }
+    answer = sudoku_read_one(WIDE_ROWS, WIDE, at[0], part_bytes[0], at[1], part_bytes[1], at[2], part_bytes[2], WANTED, big_out,
+                             part_bytes[0], big_marks, WIDE_COUNT, big_row_out, part_bytes[1], big_column_out, part_bytes[2],
+                             line, LINE, &mark, &step);
+    if (answer != SUDOKU_DONE || step != wanted.step || mark != wanted.mark)
+        return WRONG;
+    return memcmp(line, wide_lines + WANTED * LINE, LINE) == 0 ? RIGHT : WRONG;
+}
+
+static void stopped(int number)
+{
+    (void)number;
+    _exit(STOPPED);
+}
+
+/* How a child ends that reads the line so; -1 if it ends otherwise or could not be made. */
+static int child_ends(struct wanted wanted, size_t shown, int at_end)
+{
+    int status = 0;
+    pid_t child;
+
+    memcpy(wide_hurt, wide_lines, sizeof wide_hurt);
+    wide_hurt[WANTED * LINE] ^= wanted.flipped;
+    wide_hurt[(2 * WIDE - 1) * LINE] ^= wanted.beside;
+    child = fork();
+    if (child == 0)
+        _exit(signal(SIGSEGV, stopped) == SIG_ERR ? WRONG : read_hidden(wanted, shown, at_end));
+    return child > 0 && waitpid(child, &status, 0) == child && WIFEXITED(status) ? WEXITSTATUS(status) : -1;
+}
+
+/* Whether valgrind runs this program: it would report why a child is stopped, and end it with a status of its own. */
+static int watched(void)
+{
+    const char *loaded = getenv("LD_PRELOAD");
+
+    return loaded != NULL && strstr(loaded, "vgpreload") != NULL;
+}
+
+static void one_looks_at(void)
+{
+    static const struct wanted all[] = {
+        {0, 0, SUDOKU_STEP_ALONE, SUDOKU_MARK_CLEAN},
+        {1, 3, SUDOKU_STEP_ALONE, SUDOKU_MARK_REWRITTEN},
+        {3, 0, SUDOKU_STEP_ROW, SUDOKU_MARK_REBUILT},
+        {3, 12, SUDOKU_STEP_ROW, SUDOKU_MARK_TRIAL},
+        {3, 3, SUDOKU_STEP_REPAIR, SUDOKU_MARK_REBUILT},
+    };
+    const int made = make_parts();
+
+    CHECK(made);
+    for (size_t i = 0; made && i < sizeof all / sizeof all[0]; i++)
+        for (int at_end = 0; at_end < 2; at_end++) {
+            CHECK(child_ends(all[i], all[i].step, at_end) == RIGHT);
+            /* What the step before may look at is too little: so the pages are hidden indeed. */
+            if (!watched())
+                CHECK(child_ends(all[i], all[i].step - 1u, at_end) == STOPPED);
+        }
+}
+
 int main(void)
 {
     FILL(line);
@@ -976,6 +1147,7 @@ int main(void)
     one_refusals();
     one_of_four();
     one_as_repair();
+    one_looks_at();
     stack_depths();
     printf("C interface: %d checks, %d failed; repair took %lu bytes of stack, a read of one line %lu\n", checks, failures,
            (unsigned long)repair_depth, (unsigned long)one_depth);
