@@ -15,7 +15,7 @@ use Rattle.linecode.specs.Places.{linePlaces, places, lineOf, xorBytes}
 use Rattle.scheme.specs.Layer.{Cell}
 use Rattle.scheme.specs.Visit.{Group, State, cellAt, lineAt, isFaulty, select, faultyOf, without, sum}
 use Rattle.scheme.specs.Demand3.{_∈_, Rising}
-use Rattle.scheme.proofs.Lists.{selected}
+use Rattle.scheme.proofs.Lists.{selected, select-ext}
 use Rattle.scheme.proofs.Sums.{sum-ext, sum-split}
 use Rattle.rectangle.proofs.Spare.{places-lineOf, lineOf-xor}
 use Rattle.groups.specs.Lent.{Beside}
@@ -35,11 +35,6 @@ clean-sum g s line count b w e =
   where
     v : Word
     v = sum (lineAt s) (g .members) ⊕ g .parity
-
-select-ext : (f g : ℕ → Bool) (ns : List ℕ) → ((n : ℕ) → n ∈ ns → f n ≡ g n) → select f ns ≡ select g ns
-select-ext f g [] h = refl
-select-ext f g (n ∷ ns) h =
-    ap₂ (λ (b : Bool) (l : List ℕ). cond b (n ∷ l) l) (h n (inl refl)) (select-ext f g ns (λ m i. h m (inr i)))
 
 -- how many are selected where the test changes for one of them
 count-changed : (f g : ℕ → Bool) (n : ℕ) (ns : List ℕ) → Rising ns → n ∈ ns → ((m : ℕ) → (m ≡ n → ⊥) → g m ≡ f m)

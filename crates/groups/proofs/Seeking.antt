@@ -6,7 +6,7 @@ use native.Mathlib.Omega.{arith}
 use lib.ListN.{length, getD}
 use Rattle.rectangle.specs.Store.{stride}
 use Rattle.groups.specs.Lent.{Inside, faultyAmong}
-use Rattle.groups.proofs.Walk.{Walking, walk-start, walk-next, left-some, left-none, among-faulty, among-other}
+use Rattle.groups.proofs.Walk.{Walking, walk-start, walk-next, left-some, left-none, among-faulty, among-other, all-left}
 
 -- ---- seeking the first faulty line
 pub record Seeking (marks : List ℕ) (first step count n i : ℕ) : Type 0 where
@@ -17,11 +17,8 @@ pub seeking-start : (marks : List ℕ) (first step count : ℕ) → Inside first
 seeking-start marks first step count h =
     record {
       walk = walk-start first step count (length marks) h;
-      same = ap (λ (m : ℕ). getD (faultyAmong marks (stride first step m)) 0 0) (all count);
+      same = ap (λ (m : ℕ). getD (faultyAmong marks (stride first step m)) 0 0) (all-left count);
     }
-  where
-    all : (c : ℕ) → c ≡ c - 0
-    all c = omega arith
 
 module _ (marks : List ℕ) (first step count n i : ℕ) (s : Seeking marks first step count n i) where
   pub seeking-found : i < count → getD marks n 0 ≡ 4 → n ≡ getD (faultyAmong marks (stride first step count)) 0 0

@@ -44,6 +44,10 @@ module _ (first step count k n i : ℕ) (w : Walking first step count k n i) whe
       none : count ≤ i → count - i ≡ 0
       none h = omega arith
 
+-- at the start all of it is left
+pub all-left : (count : ℕ) → count ≡ count - 0
+all-left count = omega arith
+
 -- ---- the faulty lines among those left
 module _ (marks : List ℕ) (n : ℕ) (rest : List ℕ) where
   pub among-faulty : getD marks n 0 ≡ 4 → faultyAmong marks (n ∷ rest) ≡ n ∷ faultyAmong marks rest

@@ -15,7 +15,7 @@ use Rattle.scheme.specs.Parity.{unusable, asRead}
 use Rattle.scheme.specs.Demand3.{_∈_}
 use Rattle.scheme.specs.OneLine.{AlikeIn, SharesNone}
 use Rattle.scheme.proofs.Lists.{map-from}
-use Rattle.scheme.proofs.Stays.{readAll-length, first-reading-at, repair-length}
+use Rattle.scheme.proofs.Stays.{neverAltered, readAll-length, first-reading-at, repair-length}
 use Rattle.scheme.proofs.Parity.{without-lines, unusable-idle}
 use Rattle.scheme.proofs.Used.{usable}
 use Rattle.scheme.proofs.OneLine.{visit-local, stops-early}
@@ -81,6 +81,12 @@ module _ (rows columns : ℕ) (lines rowTable columnTable : List ℕ) (fit : sid
       → cellAt (repaired rows columns lines rowTable columnTable .cells) n ≡ aloneAt lines n
   unfolding repairedBy repair
   alone-final d = stops-early .alone (readLine lineLayer) _ _ n (λ e. d (rw alone-is at e)) ∙ alone-is
+
+  -- its row's visit leaves it so
+  pub alone-visited : (aloneAt lines n .mark ≡ 4 → ⊥) → cellAt (afterRow rows columns lines rowTable (n / columns)) n ≡ aloneAt lines n
+  unfolding afterRow
+  alone-visited d =
+      neverAltered .byVisit (readLine lineLayer) _ _ .accepted n (λ e. d (rw alone-is at e)) ∙ alone-is
 
   -- ---- its row among the groups as used
   used-split : usedGroups lineLayer rows columns rowTable columnTable ≡ before ++ rowOf (n / columns) ∷ after

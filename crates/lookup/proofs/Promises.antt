@@ -29,7 +29,7 @@ use Rattle.lookup.specs.Lookup.{afterRow, lastStep, oneRefusal, oneAnswe
 use Rattle.lookup.specs.Promises.{readIn, Done, lineWith, AsRepairGives, OneAsRepair, StepTells, StepsTell, OneRefused, OneSafe}
 use Rattle.lookup.proofs.Refusing.{OnePass, one-passes, nothing-refused}
 use Rattle.lookup.proofs.Steps.{one-refused as one-refused-as}
-use Rattle.lookup.proofs.Cells.{alone-final, row-final, repaired-line, repaired-mark-or, repaired-mark}
+use Rattle.lookup.proofs.Cells.{alone-final, alone-visited, row-final, repaired-line, repaired-mark-or, repaired-mark}
 
 -- two numbers that differ
 never : {A : Type 0} {x y : ℕ} → eqb x y ≡ false → x ≡ y → A
@@ -183,6 +183,12 @@ module _ (r : Rectangle) (n : ℕ) (work : Buffers) (line : List ℕ) where
     unfolding visited
     by-row p = row-final (r .rows) (r .columns) (r .lines) (r .rowTable) (r .columnTable) fit n (a .inside) (eqb-false _ 4 p)
 
+    -- a line that reads alone is as it was after the visit
+    still-visited : isFaulty alone ≡ false → visited ≡ alone
+    unfolding visited alone
+    still-visited p =
+        alone-visited (r .rows) (r .columns) (r .lines) (r .rowTable) (r .columnTable) fit n (a .inside) (eqb-false _ 4 p)
+
     step-tells : StepTells r n (readIn r n work line)
     unfolding step lastStep alone visited
     step-tells = rw (runs a) (go (isFaulty alone) (isFaulty visited) refl refl)
@@ -195,7 +201,7 @@ module _ (r : Rectangle) (n : ℕ) (work : Buffers) (line : List ℕ) where
               one = (λ e. eqb-false _ 4 p, λ d. refl);
               alone = λ e. given-final alone (by-itself p) 1;
               byRow = never refl;
-              three = never refl;
+              three = (never refl, λ e. absurd (eqb-false _ 4 p (sym (ap (λ (c : Cell). c .mark) (still-visited p)) ∙ e)));
               whole = λ e. absurd (not-eleven alone (by-itself p) p e);
             }
         go true false p q =
@@ -204,7 +210,7 @@ module _ (r : Rectangle) (n : ℕ) (work : Buffers) (line : List ℕ) where
               one = (never refl, λ d. absurd (d (eqb-true _ 4 p)));
               alone = never refl;
               byRow = λ e. given-final visited (by-row q) 2;
-              three = never refl;
+              three = (never refl, λ e. absurd (eqb-false _ 4 q e));
               whole = λ e. absurd (not-eleven visited (by-row q) q e);
             }
         go true true p q =
@@ -213,7 +219,7 @@ module _ (r : Rectangle) (n : ℕ) (work : Buffers) (line : List ℕ) where
               one = (never refl, λ d. absurd (d (eqb-true _ 4 p)));
               alone = never refl;
               byRow = never refl;
-              three = λ e. eqb-true _ 4 q;
+              three = (λ e. eqb-true _ 4 q, λ e. refl);
               whole = λ e. refl;
             }
 

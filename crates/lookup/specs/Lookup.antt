@@ -47,6 +47,7 @@ oneAnswers = 0 ∷ 2 ∷ 5 ∷ 6 ∷ 7 ∷ 8 ∷ 11 ∷ []
 abbrev pub zeroed : List ℕ → List ℕ
 zeroed buffer = replicate (length buffer) 0
 
+-- and so all four of them
 abbrev pub allZeroed : Buffers → Buffers
 allZeroed work =
     record {

@@ -52,15 +52,16 @@ pub record StepTells (r : Rectangle) (n : ℕ) (given : OneRead) : Type 0 where
   -- by the visit
   pub byRow : given .step ≡ 2
       → lineWith given ≡ inBytes (cellAt (afterRow (r .rows) (r .columns) (r .lines) (r .rowTable) (n / r .columns)) n)
-  -- "only if both fail"
-  pub three : given .step ≡ 3 → cellAt (afterRow (r .rows) (r .columns) (r .lines) (r .rowTable) (n / r .columns)) n .mark ≡ 4
-  -- "stops as soon as the line is whole": before the whole repair only then
+  -- "only if both fail": then, and always then, the whole repair was run
+  pub three : (given .step ≡ 3) ↔ (cellAt (afterRow (r .rows) (r .columns) (r .lines) (r .rowTable) (n / r .columns)) n .mark ≡ 4)
+  -- a line that stays faulty has had all three steps
   pub whole : given .answer ≡ 11 → given .step ≡ 3
 
 abbrev pub StepsTell : Type 0
 StepsTell = (r : Rectangle) (n : ℕ) (work : Buffers) (line : List ℕ) → Done (readIn r n work line) → StepTells r n (readIn r n work line)
 
--- ---- "Errors: 2, 5, 6, 7 and 8": no other number is given but 0 and 11, never 12; any of them writes nothing, and step and mark are 0
+-- ---- "Errors: 2, 5, 6, 7 and 8": no answer is given but these, 0 and 11, so never 12; each of these five writes nothing, and step and
+-- mark are 0
 pub record OneRefused : Type 0 where
   pub answers : (r : Rectangle) (n : ℕ) (work : Buffers) (line : List ℕ) → readIn r n work line .answer ∈ oneAnswers
   pub nothing : (r : Rectangle) (n : ℕ) (work : Buffers) (line : List ℕ) → (Done (readIn r n work line) → ⊥)

@@ -63,7 +63,7 @@ fn read_group(
     }
 }
 
-// Line n as its row's visit leaves it. No other line of the rectangle is looked at; an unusable row's visit does nothing.
+// Line n as its row's visit leaves it. No line of another row is looked at; an unusable row's visit does nothing.
 fn by_row(
     rows: usize,
     columns: usize,

@@ -11,7 +11,7 @@ use Rattle.scheme.specs.Visit.{State, cellAt, tryPlaces, tryLines}
 use Rattle.rectangle.specs.Store.{lineLayer, bytesAt, stride}
 use Rattle.rectangle.proofs.Spare.{places-lineOf}
 use Rattle.groups.specs.Lent.{Room, Carried, Some, Numbered}
-use Rattle.groups.proofs.Walk.{Walking, walk-start, walk-in, walk-next, left-some, left-none}
+use Rattle.groups.proofs.Walk.{Walking, walk-start, walk-in, walk-next, left-some, left-none, all-left}
 use Rattle.groups.proofs.Held.{held-count, held-mark, held-bytes}
 use Rattle.groups.proofs.Searching.{turn-other, turn-failed, turn-tried}
 
@@ -36,11 +36,8 @@ trying-start rows columns k out marks lacks faulty first step count ps room chos
     record {
       walk = walk-start first step count (rows * columns) (chosen .inside);
       room = room;
-      store = λ parity s h. (s, h, ap (λ (m : ℕ). tryLines (readLine lineLayer) ps s (stride first step m)) (all count));
+      store = λ parity s h. (s, h, ap (λ (m : ℕ). tryLines (readLine lineLayer) ps s (stride first step m)) (all-left count));
     }
-  where
-    all : (c : ℕ) → c ≡ c - 0
-    all c = omega arith
 
 pub trying-end : (rows columns : ℕ) (out₀ marks₀ lacks₀ faulty₀ : List ℕ) (first step count : ℕ) (ps out marks lacks faulty : List ℕ) (n i : ℕ)
     → Trying rows columns out₀ marks₀ lacks₀ faulty₀ first step count ps out marks lacks faulty n i → count ≤ i

@@ -18,6 +18,7 @@ use Rattle.scheme.proofs.Parity.{nothing-to-visit}
 use Rattle.rectangle.specs.Store.{lineLayer}
 use Rattle.groups.specs.Lent.{Room, Carried, Some, Makes, Numbered, groupOf}
 use Rattle.repair.specs.Lent.{usedGroup, allGroups}
+use Rattle.groups.proofs.Walk.{all-left}
 use Rattle.groups.proofs.Numbers.{any-numbered}
 use Rattle.mending.proofs.Settling.{unsettled}
 use Rattle.mending.proofs.Mismatching.{few-faulty}
@@ -47,12 +48,9 @@ passing-start rows columns pm out marks lacks faulty room =
       store = λ parity s h. (
         s,
         h,
-        ap (λ (m : ℕ). pass (readLine lineLayer) (map (usedGroup rows columns pm parity) (upFrom 0 m)) s) (all (rows + columns)),
+        ap (λ (m : ℕ). pass (readLine lineLayer) (map (usedGroup rows columns pm parity) (upFrom 0 m)) s) (all-left (rows + columns)),
       );
     }
-  where
-    all : (c : ℕ) → c ≡ c - 0
-    all c = omega arith
 
 module _ (rows columns : ℕ) (pm out₀ marks₀ lacks₀ faulty₀ out marks lacks faulty : List ℕ) (k : ℕ)
     (p : Passing rows columns pm out₀ marks₀ lacks₀ faulty₀ out marks lacks faulty k) where

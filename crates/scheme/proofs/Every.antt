@@ -17,7 +17,7 @@ use Rattle.scheme.proofs.Lists.{selected, selects}
 use Rattle.scheme.proofs.Passes.{by-rounds}
 
 -- what holds of a line after another is put: of the one put, or of the one that stood there
-pub at-set : (P : Cell → Type 0) (s : State) (n m : ℕ) (d : Cell) → (m ≡ n → P d) → P (cellAt s m) → P (cellAt (set s n d) m)
+at-set : (P : Cell → Type 0) (s : State) (n m : ℕ) (d : Cell) → (m ≡ n → P d) → P (cellAt s m) → P (cellAt (set s n d) m)
 at-set P [] n m d h k = k
 at-set P (c ∷ s) zero zero d h k = h refl
 at-set P (c ∷ s) zero (suc m) d h k = k

@@ -31,6 +31,11 @@ module _ {A : Type 0} (test : A → Bool) where
       go true r = inr r
       go false r = r
 
+-- two tests that agree on all of a list
+pub select-ext : (f g : ℕ → Bool) (ns : List ℕ) → ((n : ℕ) → n ∈ ns → f n ≡ g n) → select f ns ≡ select g ns
+select-ext f g [] h = refl
+select-ext f g (n ∷ ns) h = rw (h n (inl refl), select-ext f g ns (λ m i. h m (inr i)))
+
 module _ {A B : Type 0} (f : A → B) where
   pub in-map : (l : List A) (a : A) → a ∈ l → f a ∈ map f l
   in-map [] a i = absurd i

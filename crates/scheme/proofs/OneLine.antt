@@ -8,28 +8,25 @@ use native.Mathlib.Nat.{suc-inj}
 use native.Mathlib.Omega.{arith}
 use borrow.Author.Tests.{eqb-false}
 use lib.ListN.{length, set, length-set}
+use lib.Seq.{getD-set-other}
 use Rattle.scheme.specs.Layer.{Cell, Reading}
-use Rattle.scheme.specs.Visit.{Group, State, cellAt, lineAt, isFaulty, select, faultyOf, without, sum, rebuild, rebuildOnly, settle, mismatch, tryLines, triable, trial, visit}
+use Rattle.scheme.specs.Visit.{Group, State, cellAt, lineAt, isFaulty, faultyOf, without, sum, rebuild, rebuildOnly, settle, mismatch, tryLines, triable, trial, visit}
 use Rattle.scheme.specs.Repair.{pass, passesFrom}
 use Rattle.scheme.specs.Demand3.{_∈_}
 use Rattle.scheme.specs.OneLine.{AlikeIn, VisitLocal, SharesNone, StopsEarly}
-use Rattle.scheme.proofs.Lists.{selected}
+use Rattle.scheme.proofs.Lists.{selected, select-ext}
 use Rattle.scheme.proofs.Sums.{sum-ext}
 use Rattle.scheme.proofs.Grows.{grows-length, none-counted}
 use Rattle.scheme.proofs.Steps.{pass-grows}
 use Rattle.scheme.proofs.Passes.{by-rounds}
-use Rattle.scheme.proofs.Every.{at-set}
 use Rattle.scheme.proofs.Stays.{neverAltered}
 use Rattle.scheme.proofs.Readings.{choose}
 
 -- ---- a line that is none of the group's
 module _ (m : ℕ) where
-  set-other : (s : State) (n : ℕ) (c : Cell) → (m ≡ n → ⊥) → cellAt (set s n c) m ≡ cellAt s m
-  set-other s n c d = at-set (λ b. b ≡ cellAt s m) s n m c (λ e. absurd (d e)) refl
-
   tries-other : (read : Reading) (ps : List ℕ) (s : State) (ns : List ℕ) → (m ∈ ns → ⊥) → cellAt (tryLines read ps s ns) m ≡ cellAt s m
   tries-other read ps s [] d = refl
-  tries-other read ps s (n ∷ ns) d = tries-other read ps _ ns (λ i. d (inr i)) ∙ set-other s n _ (λ e. d (inl e))
+  tries-other read ps s (n ∷ ns) d = tries-other read ps _ ns (λ i. d (inr i)) ∙ getD-set-other s n m _ _ (λ e. d (inl e))
 
   trial-other : (read : Reading) (g : Group) (s : State) → (m ∈ g .members → ⊥) → cellAt (trial read g s) m ≡ cellAt s m
   unfolding trial
@@ -45,7 +42,7 @@ module _ (m : ℕ) where
     where
       go : (ns : List ℕ) → (m ∈ ns → ⊥) → cellAt (rebuildOnly g s ns) m ≡ cellAt s m
       go [] e = refl
-      go (n ∷ []) e = set-other s n _ (λ p. e (inl p))
+      go (n ∷ []) e = getD-set-other s n m _ _ (λ p. e (inl p))
       go (n ∷ k ∷ ns) e = refl
 
   visit-other : (read : Reading) (g : Group) (s : State) → (m ∈ g .members → ⊥) → cellAt (visit read g s) m ≡ cellAt s m
@@ -67,10 +64,6 @@ set-alike (a ∷ s) (b ∷ t) zero zero c l e = refl
 set-alike (a ∷ s) (b ∷ t) zero (suc m) c l e = e
 set-alike (a ∷ s) (b ∷ t) (suc n) zero c l e = e
 set-alike (a ∷ s) (b ∷ t) (suc n) (suc m) c l e = set-alike s t n m c (suc-inj l) e
-
-select-ext : (f g : ℕ → Bool) (ns : List ℕ) → ((n : ℕ) → n ∈ ns → f n ≡ g n) → select f ns ≡ select g ns
-select-ext f g [] h = refl
-select-ext f g (n ∷ ns) h = rw (h n (inl refl), select-ext f g ns (λ m i. h m (inr i)))
 
 module _ (g : Group) {s t : State} (a : AlikeIn g s t) where
   alike-set : (n : ℕ) {c d : Cell} → c ≡ d → AlikeIn g (set s n c) (set t n d)
@@ -116,8 +109,18 @@ module _ (read : Reading) (g : Group) where
       (choose (AlikeIn g) (alike-triable g a)
       (rw (alike-mismatch g a) (alike-tries (mismatch g t) (g .members) (λ n i. i) a)) a)
 
+-- the groups before leave this one's lines as they are
+alike-pass : (read : Reading) (before : List Group) (g : Group) (s : State) → SharesNone g before
+    → AlikeIn g (visit read g (pass read before s)) (visit read g s)
+alike-pass read before g s shares =
+    alike-visit read g (pass read before s) s
+    (record {
+      count = grows-length (pass-grows read before s);
+      cells = λ m i. pass-other m read before s (λ h j. shares h j m i);
+    })
+
 pub visit-local : VisitLocal
-visit-local = record { others = λ read g s n. visit-other n read g s; own = alike-visit }
+visit-local = record { others = λ read g s n. visit-other n read g s; own = alike-visit; inPass = alike-pass }
 
 -- ---- a line that the first pass leaves accepted
 pass-append : (read : Reading) (before after : List Group) (s : State)
@@ -139,15 +142,8 @@ first-pass read gs n =
 
 module _ (read : Reading) (before : List Group) (g : Group) (after : List Group) (s : State) (n : ℕ) (shares : SharesNone g before)
     (member : n ∈ g .members) (mended : cellAt (visit read g s) n .mark ≡ 4 → ⊥) where
-  -- the groups before leave this one's lines as they are
   after-those : cellAt (visit read g (pass read before s)) n ≡ cellAt (visit read g s) n
-  after-those =
-      alike-visit read g (pass read before s) s
-      (record {
-        count = grows-length (pass-grows read before s);
-        cells = λ m i. pass-other m read before s (λ h j. shares h j m i);
-      })
-      .cells n member
+  after-those = alike-pass read before g s shares .cells n member
 
   by-pass : cellAt (pass read (before ++ g ∷ after) s) n ≡ cellAt (visit read g s) n
   by-pass =

@@ -6,7 +6,7 @@ use native.Mathlib.Omega.{arith}
 use lib.ListN.{length, getD}
 use Rattle.rectangle.specs.Store.{stride}
 use Rattle.groups.specs.Lent.{Inside, faultyAmong}
-use Rattle.groups.proofs.Walk.{Walking, walk-start, walk-next, left-some, left-none, among-faulty, among-other}
+use Rattle.groups.proofs.Walk.{Walking, walk-start, walk-next, left-some, left-none, among-faulty, among-other, all-left}
 
 pub record Counting (marks : List ℕ) (first step count found n i : ℕ) : Type 0 where
   pub walk : Walking first step count (length marks) n i
@@ -19,10 +19,7 @@ counting-start marks first step count h =
     record { walk = walk-start first step count (length marks) h; some = omega arith; total = start count }
   where
     start : (c : ℕ) → length (faultyAmong marks (stride first step c)) ≡ 0 + length (faultyAmong marks (stride first step (c - 0)))
-    start c = ap (λ (m : ℕ). length (faultyAmong marks (stride first step m))) (all c) ∙ omega arith
-      where
-        all : (c : ℕ) → c ≡ c - 0
-        all c = omega arith
+    start c = ap (λ (m : ℕ). length (faultyAmong marks (stride first step m))) (all-left c) ∙ omega arith
 
 module _ (marks : List ℕ) (first step count found n i : ℕ) (c : Counting marks first step count found n i) where
   module _ (more : i < count) where

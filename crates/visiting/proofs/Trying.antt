@@ -9,7 +9,7 @@ use Rattle.linecode.specs.Places.{linePlaces, places, lineOf}
 use Rattle.scheme.specs.Layer.{Cell, readLine}
 use Rattle.scheme.specs.Visit.{State, cellAt, tryPlaces, tryLines}
 use Rattle.rectangle.specs.Store.{lineLayer, bytesAt, placesAt, putBytes, stride}
-use Rattle.groups.proofs.Walk.{Walking, walk-start, walk-in, walk-next, left-some, left-none}
+use Rattle.groups.proofs.Walk.{Walking, walk-start, walk-in, walk-next, left-some, left-none, all-left}
 use Rattle.groups.proofs.Searching.{turn-other, turn-failed, turn-tried}
 use Rattle.visiting.specs.Lent.{storeIn, Lent, MendedAlone, Becomes}
 use Rattle.visiting.proofs.Stores.{store-at, store-mark}
@@ -33,12 +33,9 @@ trying-start out marks first step count ps l =
       room = l .room;
       same-out = refl;
       same-marks = refl;
-      store = ap (λ (m : ℕ). tryLines (readLine lineLayer) ps (storeIn out marks) (stride first step m)) (all count);
+      store = ap (λ (m : ℕ). tryLines (readLine lineLayer) ps (storeIn out marks) (stride first step m)) (all-left count);
       bytes = untouched out marks;
     }
-  where
-    all : (c : ℕ) → c ≡ c - 0
-    all c = omega arith
 
 -- the same with the buffers under other names
 pub retry : (out₀ marks₀ : List ℕ) (first step count : ℕ) (ps a b out marks : List ℕ) (n i : ℕ) → a ≡ out → b ≡ marks

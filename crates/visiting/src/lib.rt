@@ -17,7 +17,7 @@ use rectangle::lines;
 use single::alone;
 
 // How many lines of a group are faulty.
-fn count_faulty(marks: &[u8], first: usize, step: usize, count: usize) -> usize
+fn faulty_in_group(marks: &[u8], first: usize, step: usize, count: usize) -> usize
     requires { ⌜ Inside first step count (length (now marks)) ⌝ }
     ensures { λ r. ⌜ r ≡ length (faultyAmong (now (marks .entry)) (stride first step count)) ⌝ }
 {
@@ -97,7 +97,7 @@ fn settle_group(
     ensures { λ _. ⌜ Becomes (settle (groupAt first step count parity))
         (now (out .entry)) (now (marks .entry)) (now (out .exit)) (now (marks .exit)) ⌝ }
 {
-    if count_faulty(marks, first, step, count) == 1 {
+    if faulty_in_group(marks, first, step, count) == 1 {
         let n = groups::first_faulty(marks, first, step, count);
         let lack = difference(out, parity, first, step, count);
         let rebuilt = place::xor_lines(lines::line_at(out, n), lack);
@@ -119,7 +119,7 @@ fn try_group(
     ensures { λ _. ⌜ Becomes (trial· (readLine lineLayer) (groupAt first step count parity))
         (now (out .entry)) (now (marks .entry)) (now (out .exit)) (now (marks .exit)) ⌝ }
 {
-    if count_faulty(marks, first, step, count) < 2 {
+    if faulty_in_group(marks, first, step, count) < 2 {
         return;
     }
     let tries = groups::set_places(difference(out, parity, first, step, count));
@@ -132,7 +132,7 @@ fn try_group(
     trial(out, marks, first, step, count, tries);
 }
 
-// A visit: the trials, then the rebuilding.
+// A visit: the trials, then the rebuilding. Line n of the buffers is line n of the store.
 pub fn visit_group(
     out: &mut [u8],
     marks: &mut [u8],

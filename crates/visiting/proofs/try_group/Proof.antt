@@ -5,8 +5,8 @@ use Rattle.visiting.proofs.Cases.{lent-lines, few-faulty, no-mismatch, 
 use Rattle.visiting.proofs.try_group.Statement.{statement}
 use Rattle.visiting.proofs.try_group.Tie as tie
 
-count-faulty-requires : tie.Need-count-faulty-requires
-count-faulty-requires c κs = search needs
+faulty-in-group-requires : tie.Need-faulty-in-group-requires
+faulty-in-group-requires c κs = search needs
 
 same-length : tie.Need-same-length
 same-length c = search needs
@@ -15,7 +15,7 @@ returns : tie.Need-returns
 returns c =
     let a = c .before .before .before .before .before .args in
     let full = array-length 70 (a .parity) _ (c .before .before .before .before .before .good .1 .1 .0) in
-    few-faulty _ _ _ _ _ (c .before .before .before .before .before .pre) (a .parity) full _ (c .before .count-faulty .ensures) (c .if1 .taken)
+    few-faulty _ _ _ _ _ (c .before .before .before .before .before .pre) (a .parity) full _ (c .before .faulty-in-group .ensures) (c .if1 .taken)
 
 difference-requires : tie.Need-difference-requires
 difference-requires c κs = lent-lines _ _ _ _ _ (c .before .before .before .before .before .before .pre)
@@ -33,7 +33,7 @@ returns-2 : tie.Need-returns-2
 returns-2 c =
     let a = c .before .before .before .before .before .before .before .before .before .before .args in
     let full = array-length 70 (a .parity) _ (c .before .before .before .before .before .before .before .before .before .before .good .1 .1 .0) in
-    no-mismatch _ _ _ _ _ (c .before .before .before .before .before .before .before .before .before .before .pre) (a .parity) full _ (c .before .before .before .before .before .before .count-faulty .ensures) _ (c .before .before .before .difference .ensures) _ _ (c .before .before .set-places .ensures) (c .if2 .taken)
+    no-mismatch _ _ _ _ _ (c .before .before .before .before .before .before .before .before .before .before .pre) (a .parity) full _ (c .before .before .before .before .before .before .faulty-in-group .ensures) _ (c .before .before .before .difference .ensures) _ _ (c .before .before .set-places .ensures) (c .if2 .taken)
 
 same-length-4 : tie.Need-same-length-4
 same-length-4 c = search needs
@@ -45,7 +45,7 @@ returns-3 : tie.Need-returns-3
 returns-3 c =
     let a = c .before .before .before .before .before .before .before .before .before .before .before .before .args in
     let full = array-length 70 (a .parity) _ (c .before .before .before .before .before .before .before .before .before .before .before .before .good .1 .1 .0) in
-    many-places _ _ _ _ _ (c .before .before .before .before .before .before .before .before .before .before .before .before .pre) (a .parity) full _ (c .before .before .before .before .before .before .before .before .count-faulty .ensures) _ (c .before .before .before .before .before .difference .ensures) _ _ (c .before .before .before .before .set-places .ensures) (c .if3 .taken)
+    many-places _ _ _ _ _ (c .before .before .before .before .before .before .before .before .before .before .before .before .pre) (a .parity) full _ (c .before .before .before .before .before .before .before .before .faulty-in-group .ensures) _ (c .before .before .before .before .before .difference .ensures) _ _ (c .before .before .before .before .set-places .ensures) (c .if3 .taken)
 
 trial-requires : tie.Need-trial-requires
 trial-requires c κs = search needs
@@ -60,14 +60,14 @@ returns-4 : tie.Need-returns-4
 returns-4 c =
     let a = c .before .before .before .before .before .before .before .before .before .before .before .before .before .before .before .before .before .before .before .args in
     let full = array-length 70 (a .parity) _ (c .before .before .before .before .before .before .before .before .before .before .before .before .before .before .before .before .before .before .before .good .1 .1 .0) in
-    places-tried _ _ _ _ _ (c .before .before .before .before .before .before .before .before .before .before .before .before .before .before .before .before .before .before .before .pre) (a .parity) full _ (c .before .before .before .before .before .before .before .before .before .before .before .before .before .before .before .count-faulty .ensures) _ (c .before .before .before .before .before .before .before .before .before .before .before .before .difference .ensures) _ _ (c .before .before .before .before .before .before .before .before .before .before .before .set-places .ensures) _ _
+    places-tried _ _ _ _ _ (c .before .before .before .before .before .before .before .before .before .before .before .before .before .before .before .before .before .before .before .pre) (a .parity) full _ (c .before .before .before .before .before .before .before .before .before .before .before .before .before .before .before .faulty-in-group .ensures) _ (c .before .before .before .before .before .before .before .before .before .before .before .before .difference .ensures) _ _ (c .before .before .before .before .before .before .before .before .before .before .before .set-places .ensures) _ _
     (c .before .before .before .before .before .before .before .before .before .before .before .before .before .before .if1 .left) (c .before .before .before .before .before .before .before .before .before .if2 .left) (c .before .before .before .before .before .before .before .if3 .left) (c .before .before .before .before .trial .ensures)
 
 pub try-group-spec : {M : Type 1} → statement M
 try-group-spec =
     tie.close
     (tie.spec
-    count-faulty-requires
+    faulty-in-group-requires
     same-length
     returns
     difference-requires

@@ -1,11 +1,11 @@
--- `visiting::count_faulty` meets its contract.
+-- `visiting::faulty_in_group` meets its contract.
 use native.Mathlib.Omega.{arith}
 use Prim.Native.Nat.{_-_}
 use mathlib.Core.Logic.{⊎-elim}
 use Rattle.groups.proofs.Walk.{walk-in, walk-small}
 use Rattle.visiting.proofs.Counting.{Counting, counting-start, counting-faulty, counting-other, counting-end}
-use Rattle.visiting.proofs.count_faulty.Statement.{statement}
-use Rattle.visiting.proofs.count_faulty.Tie as tie
+use Rattle.visiting.proofs.faulty_in_group.Statement.{statement}
+use Rattle.visiting.proofs.faulty_in_group.Tie as tie
 
 abbrev Inv-loop : tie.InvT-loop
 Inv-loop marks first step count found₀ n₀ i₀ found n i = Counting marks first step count found n i
@@ -42,8 +42,8 @@ loop-again c =
 returns : tie.Need-returns Inv-loop μ-loop
 returns c = counting-end _ _ _ _ _ _ _ (c .before .loop .inv) (c .loop-test .left)
 
-pub count-faulty-spec : {M : Type 1} → statement M
-count-faulty-spec =
+pub faulty-in-group-spec : {M : Type 1} → statement M
+faulty-in-group-spec =
     tie.close
     (tie.spec
     Inv-loop
