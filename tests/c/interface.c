@@ -586,6 +586,80 @@ static int each_gives(const uint8_t *steps, const uint8_t *expected)
     return all;
 }
 
+/* Lines that their rows mend. */
+static void one_by_its_row(const struct store *written)
+{
+    /* Line 0 is mended by trial, then line 1 is the only one left: places 10 and 20; 100, 200, 300 and 400. */
+    put_back(written);
+    lines[1] ^= 0x04;
+    lines[2] ^= 0x10;
+    lines[LINE + 12] ^= 0x10;
+    lines[LINE + 25] ^= 0x01;
+    lines[LINE + 37] ^= 0x10;
+    lines[LINE + 50] ^= 0x01;
+    CHECK(repairs(SUDOKU_DONE, 1)
+          && each_gives((const uint8_t[COUNT]){2, 2, 1, 1, 1, 1}, (const uint8_t[COUNT]){2, 3, 0, 0, 0, 0}));
+    /* Places 0 and 1; 1 and 5; 5 to 8. The mismatch is 0, 6, 7 and 8, and two lines are left: the row is visited once. */
+    put_back(written);
+    lines[0] ^= 0x03;
+    lines[LINE] ^= 0x22;
+    lines[2 * LINE] ^= 0xE0;
+    lines[2 * LINE + 1] ^= 0x01;
+    CHECK(repairs(SUDOKU_DONE, 1)
+          && each_gives((const uint8_t[COUNT]){2, 3, 3, 1, 1, 1}, (const uint8_t[COUNT]){2, 3, 3, 0, 0, 0}));
+    /* Each line alone: its own row rebuilds it. */
+    for (size_t n = 0; n < COUNT; n++) {
+        put_back(written);
+        lines[n * LINE] ^= 3;
+        CHECK(gives(right, n, SUDOKU_STEP_ROW, SUDOKU_MARK_REBUILT, written->lines + n * LINE));
+    }
+}
+
+/* Lines of stores that end in 11 and in 12. */
+static void one_beside_others(const struct store *written)
+{
+    /* A ring that nothing opens, and a line beside it that only its column rebuilds. */
+    put_back(written);
+    for (size_t n = 0; n < COUNT; n++)
+        if (n % COLUMNS < 2)
+            lines[n * LINE] ^= 3;
+    lines[2 * LINE + 1] ^= 7;
+    CHECK(repairs(SUDOKU_LEFT, 2)
+          && each_gives((const uint8_t[COUNT]){3, 3, 3, 3, 3, 1}, (const uint8_t[COUNT]){4, 4, 3, 4, 4, 0}));
+
+    /* Lines 0 and 1 are correct, but not those written; line 5 is hurt past reading: its row rebuilds it. */
+    put_back(written);
+    memset(lines, 0, 2 * LINE);
+    lines[5 * LINE] ^= 3;
+    CHECK(repairs(SUDOKU_DIFFERS, 1)
+          && each_gives((const uint8_t[COUNT]){1, 1, 1, 1, 1, 2}, (const uint8_t[COUNT]){0, 0, 0, 0, 0, 3}));
+    /* So is line 4, hurt alike: columns rebuild both. */
+    lines[4 * LINE] ^= 3;
+    CHECK(repairs(SUDOKU_DIFFERS, 1)
+          && each_gives((const uint8_t[COUNT]){1, 1, 1, 1, 3, 3}, (const uint8_t[COUNT]){0, 0, 0, 0, 3, 3}));
+}
+
+/* A line whose parity lines are hurt. */
+static void one_by_parity_lines(const struct store *written)
+{
+    /* Line 1 has row 0 and column 1. One bit of the row's parity line, and one of another line: both are used as read. */
+    put_back(written);
+    lines[LINE] ^= 3;
+    lines[2 * LINE + 9] ^= 16;
+    rows[5] ^= 1;
+    CHECK(repairs(SUDOKU_DONE, 1)
+          && each_gives((const uint8_t[COUNT]){1, 2, 1, 1, 1, 1}, (const uint8_t[COUNT]){0, 3, 1, 0, 0, 0}));
+    /* A second bit: the row is unusable, and the column rebuilds the line. */
+    rows[6] ^= 1;
+    CHECK(repairs(SUDOKU_DONE, 1)
+          && each_gives((const uint8_t[COUNT]){1, 3, 1, 1, 1, 1}, (const uint8_t[COUNT]){0, 3, 1, 0, 0, 0}));
+    /* So is the column: the line is left. */
+    columns[LINE] ^= 3;
+    CHECK(repairs(SUDOKU_LEFT, 1)
+          && each_gives((const uint8_t[COUNT]){1, 3, 1, 1, 1, 1}, (const uint8_t[COUNT]){0, 4, 1, 0, 0, 0}));
+    put_back(written);
+}
+
 /* The damage of `repairing` and `repairing_tables`, one line at a time. */
 static void one_as_repair(void)
 {
@@ -602,68 +676,9 @@ static void one_as_repair(void)
     lines[5 * LINE + 69] ^= 0xFE;
     CHECK(repairs(SUDOKU_DONE, 1)
           && each_gives((const uint8_t[COUNT]){2, 2, 1, 1, 1, 1}, (const uint8_t[COUNT]){2, 2, 1, 0, 1, 1}));
-
-    /* Line 0 is mended by trial, then line 1 is the only one left: places 10 and 20; 100, 200, 300 and 400. */
-    put_back(&written);
-    lines[1] ^= 0x04;
-    lines[2] ^= 0x10;
-    lines[LINE + 12] ^= 0x10;
-    lines[LINE + 25] ^= 0x01;
-    lines[LINE + 37] ^= 0x10;
-    lines[LINE + 50] ^= 0x01;
-    CHECK(repairs(SUDOKU_DONE, 1)
-          && each_gives((const uint8_t[COUNT]){2, 2, 1, 1, 1, 1}, (const uint8_t[COUNT]){2, 3, 0, 0, 0, 0}));
-    /* Places 0 and 1; 1 and 5; 5 to 8. The mismatch is 0, 6, 7 and 8, and two lines are left: the row is visited once. */
-    put_back(&written);
-    lines[0] ^= 0x03;
-    lines[LINE] ^= 0x22;
-    lines[2 * LINE] ^= 0xE0;
-    lines[2 * LINE + 1] ^= 0x01;
-    CHECK(repairs(SUDOKU_DONE, 1)
-          && each_gives((const uint8_t[COUNT]){2, 3, 3, 1, 1, 1}, (const uint8_t[COUNT]){2, 3, 3, 0, 0, 0}));
-    /* Each line alone: its own row rebuilds it. */
-    for (size_t n = 0; n < COUNT; n++) {
-        put_back(&written);
-        lines[n * LINE] ^= 3;
-        CHECK(gives(right, n, SUDOKU_STEP_ROW, SUDOKU_MARK_REBUILT, written.lines + n * LINE));
-    }
-
-    /* A ring that nothing opens, and a line beside it that only its column rebuilds. */
-    put_back(&written);
-    for (size_t n = 0; n < COUNT; n++)
-        if (n % COLUMNS < 2)
-            lines[n * LINE] ^= 3;
-    lines[2 * LINE + 1] ^= 7;
-    CHECK(repairs(SUDOKU_LEFT, 2)
-          && each_gives((const uint8_t[COUNT]){3, 3, 3, 3, 3, 1}, (const uint8_t[COUNT]){4, 4, 3, 4, 4, 0}));
-
-    /* Lines 0 and 1 are correct, but not those written; line 5 is hurt past reading: its row rebuilds it. */
-    put_back(&written);
-    memset(lines, 0, 2 * LINE);
-    lines[5 * LINE] ^= 3;
-    CHECK(repairs(SUDOKU_DIFFERS, 1)
-          && each_gives((const uint8_t[COUNT]){1, 1, 1, 1, 1, 2}, (const uint8_t[COUNT]){0, 0, 0, 0, 0, 3}));
-    /* So is line 4, hurt alike: columns rebuild both. */
-    lines[4 * LINE] ^= 3;
-    CHECK(repairs(SUDOKU_DIFFERS, 1)
-          && each_gives((const uint8_t[COUNT]){1, 1, 1, 1, 3, 3}, (const uint8_t[COUNT]){0, 0, 0, 0, 3, 3}));
-
-    /* Line 1 has row 0 and column 1. One bit of the row's parity line, and one of another line: both are used as read. */
-    put_back(&written);
-    lines[LINE] ^= 3;
-    lines[2 * LINE + 9] ^= 16;
-    rows[5] ^= 1;
-    CHECK(repairs(SUDOKU_DONE, 1)
-          && each_gives((const uint8_t[COUNT]){1, 2, 1, 1, 1, 1}, (const uint8_t[COUNT]){0, 3, 1, 0, 0, 0}));
-    /* A second bit: the row is unusable, and the column rebuilds the line. */
-    rows[6] ^= 1;
-    CHECK(repairs(SUDOKU_DONE, 1)
-          && each_gives((const uint8_t[COUNT]){1, 3, 1, 1, 1, 1}, (const uint8_t[COUNT]){0, 3, 1, 0, 0, 0}));
-    /* So is the column: the line is left. */
-    columns[LINE] ^= 3;
-    CHECK(repairs(SUDOKU_LEFT, 1)
-          && each_gives((const uint8_t[COUNT]){1, 3, 1, 1, 1, 1}, (const uint8_t[COUNT]){0, 4, 1, 0, 0, 0}));
-    put_back(&written);
+    one_by_its_row(&written);
+    one_beside_others(&written);
+    one_by_parity_lines(&written);
 }
 
 /* Memory of whole pages, to be hidden or mapped twice: that of a file without a name. */
