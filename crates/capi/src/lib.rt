@@ -157,7 +157,8 @@ pub extern "C" fn sudoku_repair(
     repaired.answer
 }
 
-// Line n read alone into `line`, then by its row's visit, then by the whole repair, with its mark and the last step taken.
+// Line n read alone into `line`, then by its row's visit, then by the whole repair, with its mark and the last step taken. The four buffers
+// before `line` are room to work in.
 #[no_mangle]
 pub extern "C" fn sudoku_read_one(
     rows: usize,
@@ -168,8 +169,8 @@ pub extern "C" fn sudoku_read_one(
     n: usize,
     out: &mut [u8],
     marks: &mut [u8],
-    row_out: &mut [u8],
-    column_out: &mut [u8],
+    row_room: &mut [u8],
+    column_room: &mut [u8],
     line: &mut [u8],
     mark: &mut u8,
     step: &mut u32,
@@ -183,16 +184,16 @@ pub extern "C" fn sudoku_read_one(
           work = record {
             lines = now (out .exit);
             marks = now (marks .exit);
-            rowTable = now («row_out» .exit);
-            columnTable = now («column_out» .exit);
+            rowTable = now («row_room» .exit);
+            columnTable = now («column_room» .exit);
           };
         })
         (readOne rows columns (now (lines .entry)) (now («row_table» .entry)) (now («column_table» .entry)) n
         (record {
           lines = now (out .entry);
           marks = now (marks .entry);
-          rowTable = now («row_out» .entry);
-          columnTable = now («column_out» .entry);
+          rowTable = now («row_room» .entry);
+          columnTable = now («column_room» .entry);
         })
         (now (line .entry))) ⌝ }
 {
@@ -205,8 +206,8 @@ pub extern "C" fn sudoku_read_one(
         n,
         out,
         marks,
-        row_out,
-        column_out,
+        row_room,
+        column_room,
         line,
     );
     *mark = one.mark;

@@ -69,13 +69,9 @@ early-hold : T (all (take 3 oneCases))
 unfolding generator generatorPolynomial dataPlaces protectedPlaces hammingPlaces linePlaces lineBytes places lineOf protected dataOf accepted hammingColumns positions hamming withCrc withHamming codeword isCorrect columns syndrome naming answerTo readAlone rebuild settle mismatch trial visit passesFrom repair answer unusable asRead parityAfter readUnder bytesAt placesAt linesIn aloneAt row column groups sideFits sidesFit holds tablesFit repairRefusal usedGroups repairedBy tableAfter handedOver repairBy clean hurt last afterRow lastStep oneRefusal readOne readWith
 early-hold = tt
 
-late-hold : T (all (take 3 (drop 3 oneCases)))
-unfolding generator generatorPolynomial dataPlaces protectedPlaces hammingPlaces linePlaces lineBytes places lineOf protected dataOf accepted hammingColumns positions hamming withCrc withHamming codeword isCorrect columns syndrome naming answerTo readAlone rebuild settle mismatch trial visit passesFrom repair answer unusable asRead parityAfter readUnder bytesAt placesAt linesIn aloneAt row column groups sideFits sidesFit holds tablesFit repairRefusal usedGroups repairedBy tableAfter handedOver repairBy clean hurt last afterRow lastStep oneRefusal readOne readWith
-late-hold = tt
-
-apart-hold : T (all (drop 3 (drop 3 oneCases)))
+apart-hold : T (all (drop 3 oneCases))
 unfolding generator generatorPolynomial dataPlaces protectedPlaces hammingPlaces linePlaces lineBytes places lineOf protected dataOf accepted hammingColumns positions hamming withCrc withHamming codeword isCorrect columns syndrome naming answerTo readAlone rebuild settle mismatch trial visit passesFrom repair answer unusable asRead parityAfter readUnder bytesAt placesAt linesIn aloneAt row column groups sideFits sidesFit holds tablesFit repairRefusal usedGroups repairedBy tableAfter handedOver repairBy clean hurt last afterRow lastStep oneRefusal readOne readWith
 apart-hold = tt
 
 pub one-cases-hold : T (all oneCases)
-one-cases-hold = by-parts 3 oneCases early-hold (by-parts 3 (drop 3 oneCases) late-hold apart-hold)
+one-cases-hold = by-parts 3 oneCases early-hold apart-hold
