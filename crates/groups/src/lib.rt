@@ -1,5 +1,5 @@
 // The groups of a rectangle in visiting order, rows and then columns: their lines, and what stands beside each.
-// Public for `mending` and for `repair`, which have tested or made what these ask; not entry points.
+// Public for the crates above that visit groups, which have tested or made what these ask; not entry points.
 pub mod tracked;
 
 ghost use mathlib.Core.Bool.{false, _||_};
