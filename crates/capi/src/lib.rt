@@ -2,12 +2,14 @@
 // In C a slice is a pointer and a length; the mark, the passes, the number and the step are each returned through a pointer.
 use linecode::place;
 use single::alone;
+use wear::numbers;
 ghost use mathlib.Core.Path.{_≡_};
 ghost use lib.ListN.{length};
 ghost use Rattle.rectangle.specs.Tables.{TablesMade, makeTables};
 ghost use Rattle.rectangle.specs.Change.{LineChanged, changeLine};
 ghost use Rattle.rectangle.specs.Repair.{StoreRepaired, repairStore};
 ghost use Rattle.lookup.specs.Lookup.{OneRead, readOne};
+ghost use Rattle.tour.specs.Numbers.{NumbersAdded, addNumbers, compareNumbers};
 ghost use Rattle.capi.specs.Single.{Written, writeLine, Answered, readLine};
 
 // A line put into a buffer of its length. The data and the six bytes after them go apart: a processor waits where a load takes in bytes of
@@ -213,4 +215,24 @@ pub extern "C" fn sudoku_read_one(
     *mark = one.mark;
     *step = one.step;
     one.answer
+}
+
+// A repair result taken into a wear report of ten numbers.
+#[no_mangle]
+pub extern "C" fn sudoku_wear_add(wear: &mut [u64], marks: &[u8], answer: u32) -> u32
+    ensures { λ r. ⌜ _≡_ {A = NumbersAdded}
+        (record { answer = r; numbers = now (wear .exit) })
+        (addNumbers (now (wear .entry)) (record { marks = now (marks .entry); answer = answer })) ⌝ }
+{
+    numbers::add_numbers(wear, marks, answer)
+}
+
+// The shares of rebuilt lines of two wear reports compared, and their order.
+#[no_mangle]
+pub extern "C" fn sudoku_wear_compare(a: &[u64], b: &[u64], order: &mut u32) -> u32
+    ensures { λ r. ⌜ record { answer = r; order = now (order .exit) } ≡ compareNumbers (now (a .entry)) (now (b .entry)) ⌝ }
+{
+    let compared = numbers::compare_numbers(a, b);
+    *order = compared.order;
+    compared.answer
 }

@@ -7,10 +7,10 @@ use borrow.Author.Tests.{eq-eqb, ne-eqb}
 use Rattle.rectangle.specs.Repair.{Buffers, StoreRepaired, handsOver, repairStore}
 use Rattle.storefile.specs.Header.{linesPart, rowTablePart, columnTablePart, bytesIn}
 use Rattle.storefile.specs.Opening.{opened}
-use Rattle.report.specs.Marks.{countsOf}
+use Rattle.results.specs.Marks.{countsOf}
 use Rattle.report.specs.Check.{leftBy, refusedWith, repairOpened, counted, checkStore}
 use Rattle.storefile.specs.declared.header.Part.{Part}
-use Rattle.report.specs.declared.marks.Counts.{Counts}
+use Rattle.results.specs.declared.marks.Counts.{Counts}
 use Rattle.storefile.specs.declared.opening.Opened.{Opened}
 use Rattle.report.specs.declared.report.Checked.{Checked}
 

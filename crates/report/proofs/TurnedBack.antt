@@ -21,16 +21,16 @@ use Rattle.rectangle.proofs.LineLayer.{kept}
 use Rattle.rectangle.proofs.Runs.{zero-or-not, answer-hands-over, refusal-hands-nothing, repair-runs, repair-refused, repair-answers}
 use Rattle.rectangle.proofs.Tests.{every-at, not-among, either-way}
 use Rattle.storefile.specs.Opening.{rowsIn, columnsIn, openRefusal, opened}
-use Rattle.report.specs.Marks.{countsOf}
+use Rattle.results.specs.Marks.{countsOf, total}
 use Rattle.report.specs.Report.{ReportWritten, reportBytes, writeReport}
 use Rattle.report.specs.Check.{leftBy, StoreChecked, refusedWith, repairOpened, counted, checkStore}
-use Rattle.report.specs.Promises.{total, CheckCountsLines, CheckRefusalsWriteNothing, NineNotGiven}
+use Rattle.report.specs.Promises.{CheckCountsLines, CheckRefusalsWriteNothing, NineNotGiven}
 use Rattle.report.specs.declared.report.Checked.{Checked}
 use Rattle.storefile.proofs.Answers as Opening
 use Rattle.storefile.proofs.Answers.{openAnswers, opening-answers}
 use Rattle.storefile.proofs.Openings.{Outcome, accepted, refused, outcome}
 use Rattle.report.proofs.Checking.{check-refused, check-turned-back, check-counted}
-use Rattle.report.proofs.Adding.{counts-add-up}
+use Rattle.results.proofs.Adding.{counts-add-up}
 
 -- ---- which answers hand over
 opening-refuses : (n : ℕ) → n ∈ openAnswers → (n ≡ 0 → ⊥) → handsOver n ≡ false

@@ -6,7 +6,7 @@ use lib.Dec.{eqb}
 use Rattle.rectangle.specs.Repair.{Buffers, StoreRepaired, handsOver, repairStore}
 use Rattle.storefile.specs.Header.{linesPart, rowTablePart, columnTablePart, bytesIn}
 use Rattle.storefile.specs.Opening.{opened}
-use Rattle.report.specs.Marks.{countsOf, noCounts}
+use Rattle.results.specs.Marks.{countsOf, noCounts}
 use Rattle.storefile.specs.declared.opening.Opened.{Opened}
 use Rattle.report.specs.declared.report.Checked.{Checked}
 

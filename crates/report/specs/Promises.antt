@@ -7,10 +7,9 @@ use lib.ListN.{length, take, getD}
 use Rattle.rectangle.specs.Repair.{Buffers, handsOver}
 use Rattle.storefile.specs.Header.{headerBytes}
 use Rattle.storefile.specs.Opening.{bytesNeeded}
-use Rattle.report.specs.Marks.{countsOf}
+use Rattle.results.specs.Marks.{total}
 use Rattle.report.specs.Report.{decimal, writeReport}
 use Rattle.report.specs.Check.{refusedWith, checkStore}
-use Rattle.report.specs.declared.marks.Counts.{Counts}
 use Rattle.report.specs.declared.report.Checked.{Checked}
 
 -- ---- a reader that stops after the bytes it needs gives the same answer: those that follow change nothing
@@ -19,14 +18,7 @@ MoreChangesNothing =
     (limit : ℕ) (file : List ℕ) (b : Buffers)
     → checkStore limit (take (bytesNeeded limit (take headerBytes file)) file) b ≡ checkStore limit file b
 
--- ---- "the counts are defined from the marks and add up to the lines"
-abbrev pub total : Counts → ℕ
-total c = c .clean + c .alone + c .trial + c .rebuilt + c .faulty
-
-abbrev pub CountsAddUp : Type 0
-CountsAddUp = (marks : List ℕ) → ((n : ℕ) → n < length marks → getD marks n 0 ≤ 4) → total (countsOf marks) ≡ length marks
-
--- of every check that hands a store over
+-- ---- "the counts are defined from the marks and add up to the lines", of every check that hands a store over
 abbrev pub CheckCountsLines : Type 0
 CheckCountsLines =
     (limit : ℕ) (file : List ℕ) (b : Buffers)

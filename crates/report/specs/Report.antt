@@ -7,7 +7,7 @@ use Prim.Native.String.{[] as none, _∷_ as _then_, String}
 use lib.Dec.{eqb, ltb}
 use lib.ListN.{length, drop}
 use Rattle.rectangle.specs.Repair.{handsOver}
-use Rattle.report.specs.declared.marks.Counts.{Counts}
+use Rattle.results.specs.declared.marks.Counts.{Counts}
 use Rattle.report.specs.declared.report.Checked.{Checked}
 
 -- the bytes of a text

@@ -3,11 +3,10 @@ ghost use mathlib.Core.Path.{_≡_};
 ghost use Prim.Native.Nat.{_≤_};
 ghost use Rattle.rectangle.specs.Repair.{StoreRepaired};
 ghost use Rattle.report.specs.Check.{lent, StoreChecked, refusedWith, repairOpened, checkStore};
-use crate::marks;
-use crate::marks::Counts;
-use crate::report;
 use crate::report::Checked;
 use repair::Repaired;
+use results::answers;
+use results::marks;
 use storefile::header;
 use storefile::opening;
 
@@ -19,13 +18,7 @@ fn refused(answer: u32) -> Checked
         answer,
         rows: 0,
         columns: 0,
-        counts: Counts {
-            clean: 0,
-            alone: 0,
-            trial: 0,
-            rebuilt: 0,
-            faulty: 0,
-        },
+        counts: marks::none(),
         passes: 0,
     }
 }
@@ -91,7 +84,7 @@ pub fn check_within(
         return refused(o.answer);
     }
     let r = repair_opened(file, o.rows, o.columns, out, marks, row_out, column_out);
-    if !report::hands_over(r.answer) {
+    if !answers::hands_over(r.answer) {
         return refused(r.answer);
     }
     let counts = marks::count_all(marks);

@@ -1,5 +1,4 @@
-// What is said of a store file: a check of the whole store, the counts of its marks, and the report. Document 01, "Store file".
+// What is said of a store file: a check of the whole store, and the report. Document 01, "Store file".
 pub mod check;
-pub mod marks;
 pub mod program;
 pub mod report;

@@ -2,10 +2,10 @@
 ghost use mathlib.Core.Path.{_≡_};
 ghost use Prim.Native.Nat.{_+_, _≤_};
 ghost use lib.ListN.{length};
-ghost use Rattle.rectangle.specs.Repair.{handsOver};
 ghost use Rattle.storefile.specs.Bytes.{Put};
 ghost use Rattle.report.specs.Report.{decimal, spaced, line, storeLine, countLines, linesAbove, writeReport};
-use crate::marks::Counts;
+use results::answers;
+use results::marks::Counts;
 use storefile::bytes;
 
 // What a check of a store answers, its rows and columns, the counts of its marks, and the passes.
@@ -21,19 +21,6 @@ pub struct Checked {
 pub struct Reported {
     pub answer: u32,
     pub size: usize,
-}
-
-// Whether repair hands a store over with an answer.
-pub fn hands_over(answer: u32) -> bool
-    ensures { λ r. ⌜ r ≡ handsOver answer ⌝ }
-{
-    if answer == 0 {
-        return true;
-    }
-    if answer == 11 {
-        return true;
-    }
-    answer == 12
 }
 
 // A number in decimal, put from a place on: the higher digits first, then the last.
@@ -89,11 +76,11 @@ fn put_counts(out: &mut [u8], at: usize, counts: Counts) -> usize
     ensures written { λ r. ⌜ Put (now (out .entry)) at (countLines counts) (now (out .exit)) r ⌝ }
     ensures short { λ r. ⌜ r ≤ at + 138 ⌝ }
 {
-    let alone = put_line(out, at, b"clean", counts.clean);
-    let trial = put_line(out, alone, b"alone", counts.alone);
-    let rebuilt = put_line(out, trial, b"trial", counts.trial);
-    let faulty = put_line(out, rebuilt, b"rebuilt", counts.rebuilt);
-    put_line(out, faulty, b"faulty", counts.faulty)
+    let alone = put_line(out, at, b"clean", counts.clean as usize);
+    let trial = put_line(out, alone, b"alone", counts.alone as usize);
+    let rebuilt = put_line(out, trial, b"trial", counts.trial as usize);
+    let faulty = put_line(out, rebuilt, b"rebuilt", counts.rebuilt as usize);
+    put_line(out, faulty, b"faulty", counts.faulty as usize)
 }
 
 // The lines above the last, put from the buffer's start on.
@@ -116,7 +103,7 @@ pub fn report(c: Checked, out: &mut [u8]) -> Reported
         return Reported { answer: 7, size: 0 };
     }
     let answer = c.answer;
-    if !hands_over(answer) {
+    if !answers::hands_over(answer) {
         let end = put_line(out, 0, b"answer", answer as usize);
         return Reported {
             answer: 0,

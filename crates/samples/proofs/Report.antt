@@ -17,7 +17,7 @@ use Rattle.rectangle.specs.Repair.{usedGroups, repairedBy, tableAfter, handsOve
 use Rattle.storefile.specs.Bytes.{numberAt}
 use Rattle.storefile.specs.Header.{headerBytes, linesPart, rowTablePart, columnTablePart, fileLength, entry, header, bytesIn}
 use Rattle.storefile.specs.Opening.{rowsIn, columnsIn, sidesWithin, entryIs, entriesFit, contentsFit, openRefusal, opened}
-use Rattle.report.specs.Marks.{countOf, countsOf, noCounts}
+use Rattle.results.specs.Marks.{countOf, countsOf, noCounts}
 use Rattle.report.specs.Report.{decimal, spaced, line, storeLine, countLines, linesAbove, reportText}
 use Rattle.report.specs.Program.{zeroBuffers}
 use Rattle.report.specs.Check.{refusedWith, repairOpened, counted, checkStore}

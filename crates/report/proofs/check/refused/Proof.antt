@@ -1,6 +1,6 @@
 -- `report::check::refused` meets its contract.
 use mathlib.Core.Path.{refl}
-use Rattle.report.specs.Marks.{noCounts}
+use Rattle.results.specs.Marks.{noCounts}
 use Rattle.report.specs.Check.{refusedWith}
 use Rattle.report.proofs.check.refused.Statement.{statement}
 use Rattle.report.proofs.check.refused.Tie as tie

@@ -1,12 +1,12 @@
 -- Document 01, "Store file": the counts of marks 0 to 4.
 use mathlib.Core.List.{List}
-use Prim.Native.Nat.{ℕ}
+use Prim.Native.Nat.{ℕ, _+_}
 use lib.Dec.{eqb}
 use lib.ListN.{length}
 use Rattle.scheme.specs.Visit.{select}
-use Rattle.report.specs.declared.marks.Counts.{Counts}
+use Rattle.results.specs.declared.marks.Counts.{Counts}
 
--- how often a mark stands among some marks
+-- how often a number stands in a list
 unfoldable pub countOf : ℕ → List ℕ → ℕ
 countOf mark marks = length (select (λ m. eqb m mark) marks)
 
@@ -24,3 +24,18 @@ countsOf marks =
 -- where nothing was counted
 unfoldable pub noCounts : Counts
 noCounts = record { clean = 0; alone = 0; trial = 0; rebuilt = 0; faulty = 0 }
+
+-- all lines that were counted
+abbrev pub total : Counts → ℕ
+total c = c .clean + c .alone + c .trial + c .rebuilt + c .faulty
+
+-- the counts of two lists together
+unfoldable pub plusCounts : Counts → Counts → Counts
+plusCounts a b =
+    record {
+      clean = a .clean + b .clean;
+      alone = a .alone + b .alone;
+      trial = a .trial + b .trial;
+      rebuilt = a .rebuilt + b .rebuilt;
+      faulty = a .faulty + b .faulty;
+    }

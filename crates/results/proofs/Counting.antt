@@ -7,7 +7,7 @@ use native.Mathlib.Omega.{arith}
 use borrow.Author.Tests.{eq-eqb, ne-eqb}
 use lib.ListN.{length, drop, getD, drop-of-length-le}
 use lib.Seq.{drop-cons}
-use Rattle.report.specs.Marks.{countOf, countsOf}
+use Rattle.results.specs.Marks.{countOf, countsOf}
 
 module _ (mark : ℕ) where
   pub count-same : (m : ℕ) (rest : List ℕ) → m ≡ mark → countOf mark (m ∷ rest) ≡ suc (countOf mark rest)

@@ -4,8 +4,8 @@ use mathlib.Core.List.{List, [], _∷_}
 use Prim.Native.Nat.{ℕ, zero, suc, _≤_}
 use native.Mathlib.Omega.{arith}
 use lib.ListN.{length}
-use Rattle.report.specs.Marks.{countOf, countsOf}
-use Rattle.report.specs.Promises.{total, CountsAddUp}
+use Rattle.results.specs.Marks.{countOf, countsOf, total}
+use Rattle.results.specs.Promises.{CountsAddUp, CountsTellMarks, CountsTogether}
 
 -- one mark more is counted once
 one-more : (m : ℕ) (rest : List ℕ) → m ≤ 4 → total (countsOf rest) ≡ length rest → total (countsOf (m ∷ rest)) ≡ suc (length rest)

@@ -1,0 +1,84 @@
+-- What is promised of wear reports beyond their definitions (request Q-5); the proofs stand in proofs/.
+use mathlib.Core.Path.{_≡_}
+use mathlib.Core.Logic.{_↔_}
+use mathlib.Core.Bool.{true}
+use mathlib.Core.List.{List, []}
+use Prim.Native.Nat.{ℕ, _*_, _≤_}
+use lib.ListN.{length, take}
+use Rattle.scheme.specs.Visit.{select}
+use Rattle.scheme.specs.Demand3.{_∈_}
+use Rattle.rectangle.specs.Repair.{Buffers, StoreRepaired, handsOver}
+use Rattle.demands.specs.Demands.{Rectangle, repairOf}
+use Rattle.results.specs.Marks.{total}
+use Rattle.tour.specs.Wear.{Result, linesOf, wearOf, empty}
+use Rattle.tour.specs.Adding.{mostStores, answersTotal, isReport, isResult, hasRoom, addStore, addAll, takenIn}
+use Rattle.tour.specs.Share.{orderOf, shareOrder, compareShares}
+use Rattle.tour.specs.Numbers.{reportNumbers, numbersOf, wearIn, addNumbers, compareNumbers}
+use Rattle.tour.specs.declared.Wear as Declared
+
+-- ---- "Lines seen must equal the lines in all stores taken in since the empty report, and the mark counts must add up to it; all counts
+-- are defined from the list of these stores, refused ones left out."
+pub record CountedFrom (results : List Result) : Type 0 where
+  -- the report is the one of the stores that were taken in
+  pub report : addAll empty results ≡ wearOf (takenIn empty results)
+  -- and these are the first million of those that are results at all
+  pub taken : takenIn empty results ≡ take mostStores (select isResult results)
+  pub lines : addAll empty results .lines ≡ linesOf (takenIn empty results)
+  pub marks : total (addAll empty results .marks) ≡ addAll empty results .lines
+  pub answers : answersTotal (addAll empty results .answers) ≡ addAll empty results .stores
+
+abbrev pub Counted : Type 0
+Counted = (results : List Result) → CountedFrom results
+
+-- ---- Errors: an addition is taken, with 0, exactly if all three tests pass; otherwise it answers 15, and "A refused addition leaves the
+-- report unchanged."
+pub record Refused : Type 0 where
+  pub taken : (w : Declared.Wear) (store : Result)
+      → (addStore w store .answer ≡ 0) ↔ ((isReport w ≡ true) × (hasRoom w ≡ true) × (isResult store ≡ true))
+  pub refused : (w : Declared.Wear) (store : Result) → (addStore w store .answer ≡ 0 → ⊥)
+      → addStore w store ≡ record { answer = 15; wear = w }
+  pub compared : (a b : Declared.Wear) → (compareShares a b .answer ≡ 0) ↔ ((isReport a ≡ true) × (isReport b ≡ true))
+  pub notCompared : (a b : Declared.Wear) → (compareShares a b .answer ≡ 0 → ⊥) → compareShares a b ≡ record { answer = 15; order = 0 }
+
+-- what was added to is a report again, so that neither the next addition nor a comparison is refused for it
+abbrev pub StaysReport : Type 0
+StaysReport = (w : Declared.Wear) (store : Result) → isReport w ≡ true → isReport (addStore w store .wear) ≡ true
+
+-- ---- "one repair result": what repair hands over is one, whatever was damaged, and what it refuses is none
+abbrev pub resultOf : StoreRepaired → Result
+resultOf r = record { marks = r .marks; answer = r .answer }
+
+abbrev pub RepairGivesResult : Type 0
+RepairGivesResult = (r : Rectangle) (work : Buffers) → isResult (resultOf (repairOf r work)) ≡ handsOver (repairOf r work .answer)
+
+-- ---- "The share of rebuilt lines in two reports is compared exactly in whole numbers, and a report with no lines counts as share zero."
+-- x out of m is a report's share: as its rebuilt lines out of its lines, and none where it has no lines
+pub record HasShare (w : Declared.Wear) (x m : ℕ) : Type 0 where
+  pub some : 1 ≤ m
+  pub ofLines : 1 ≤ w .lines → w .marks .rebuilt * m ≡ x * w .lines
+  pub noLines : w .lines ≡ 0 → x ≡ 0
+
+-- two shares out of one number, and the order is theirs; there is always such a number
+pub record OrderOfFractions (a b : Declared.Wear) : Type 0 where
+  pub agrees : (x y m : ℕ) → HasShare a x m → HasShare b y m → shareOrder a b ≡ orderOf x y
+  pub common : (m : ℕ) × (x : ℕ) × (y : ℕ) × (HasShare a x m) × (HasShare b y m)
+
+abbrev pub SharesCompared : Type 0
+SharesCompared = (a b : Declared.Wear) → isReport a ≡ true → isReport b ≡ true → OrderOfFractions a b
+
+-- the comparison orders all reports: it is total, and equal, smaller and greater each carry over
+pub record OrdersReports : Type 0 where
+  pub total : (a b : Declared.Wear) → (shareOrder a b ≡ 0) ⊎ ((shareOrder a b ≡ 1) ⊎ (shareOrder a b ≡ 2))
+  pub itself : (a : Declared.Wear) → shareOrder a a ≡ 0
+  pub turned : (a b : Declared.Wear) → (shareOrder a b ≡ 1) ↔ (shareOrder b a ≡ 2)
+  pub transitive : (a b c : Declared.Wear) (k : ℕ) → shareOrder a b ≡ k → shareOrder b c ≡ k → shareOrder a c ≡ k
+  pub equals : (a b c : Declared.Wear) → shareOrder a b ≡ 0 → shareOrder a c ≡ shareOrder b c
+
+-- ---- as ten numbers: nothing is lost either way, and the answers are 0, 15, and 7 exactly for another length
+pub record TenNumbers : Type 0 where
+  pub read : (w : Declared.Wear) → wearIn (numbersOf w) ≡ w
+  pub written : (numbers : List ℕ) → length numbers ≡ reportNumbers → numbersOf (wearIn numbers) ≡ numbers
+  pub refused : (numbers : List ℕ) (store : Result) → (addNumbers numbers store .answer ≡ 0 → ⊥)
+      → addNumbers numbers store .numbers ≡ numbers
+  pub seven : (numbers : List ℕ) (store : Result) → (addNumbers numbers store .answer ≡ 7) ↔ (length numbers ≡ reportNumbers → ⊥)
+  pub compared : (a b : List ℕ) → (compareNumbers a b .answer ≡ 7) ↔ ((length a ≡ reportNumbers) × (length b ≡ reportNumbers) → ⊥)
