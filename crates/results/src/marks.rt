@@ -1,5 +1,6 @@
 // How often each mark stands in a mark buffer.
 ghost use mathlib.Core.Path.{_≡_};
+ghost use mathlib.Core.List.{[], _∷_};
 ghost use Prim.Native.Nat.{_+_, _≤_, _<_};
 ghost use lib.ListN.{length};
 ghost use Rattle.results.specs.Marks.{countOf, countsOf, noCounts, total, plusCounts};
@@ -76,6 +77,17 @@ fn count_piece(marks: &[u8]) -> Counts
     }
 }
 
+// Where a piece that starts at i ends.
+fn piece_end(i: usize, len: usize) -> usize
+    requires { ⌜ i < len ⌝ }
+    ensures { λ r. ⌜ (i < r) × (r ≤ len) × (r ≤ i + 192) ⌝ }
+{
+    if len - i < 192 {
+        return len;
+    }
+    i + 192
+}
+
 // The counts of all five marks, piece after piece.
 pub fn count_all(marks: &[u8]) -> Counts
     ensures { λ r. ⌜ r ≡ countsOf (now (marks .entry)) ⌝ }
@@ -83,10 +95,7 @@ pub fn count_all(marks: &[u8]) -> Counts
     let mut counts = none();
     let mut i = 0;
     while i < marks.len() {
-        let mut end = marks.len();
-        if 192 < end - i {
-            end = i + 192;
-        }
+        let end = piece_end(i, marks.len());
         let piece = count_piece(&marks[i..end]);
         let next = plus(counts, piece);
         counts = next;

@@ -1,11 +1,11 @@
 // One repair result taken into a report.
+use crate::report;
 use results::answers;
 use results::marks;
 use results::marks::Counts;
 use tour::Added;
 use tour::Answers;
 use tour::Wear;
-use crate::report;
 ghost use mathlib.Core.Path.{_≡_};
 ghost use mathlib.Core.Bool.{true, _&&_};
 ghost use mathlib.Core.List.{[], _∷_};
@@ -20,7 +20,10 @@ ghost use Rattle.tour.specs.Adding.{mostLines, isReport, hasRoom, plusAnswers, 
 fn refused(w: Wear) -> Added
     ensures { λ r. ⌜ r ≡ record { answer = 15; wear = w } ⌝ }
 {
-    Added { answer: 15, wear: w }
+    Added {
+        answer: 15,
+        wear: w,
+    }
 }
 
 // How often an answer stands in a list of one.

@@ -1,7 +1,7 @@
 // The shares of rebuilt lines of two reports, compared by cross products.
+use crate::report;
 use tour::Compared;
 use tour::Wear;
-use crate::report;
 ghost use mathlib.Core.Path.{_≡_};
 ghost use mathlib.Core.Bool.{true};
 ghost use Prim.Native.Nat.{_+_, _*_, _<_};

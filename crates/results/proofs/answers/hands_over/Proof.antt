@@ -1,8 +1,8 @@
--- `report::report::hands_over` meets its contract.
+-- `results::answers::hands_over` meets its contract.
 use borrow.Author.Tests.{ne-eqb}
 use Rattle.rectangle.specs.Repair.{handsOver}
-use Rattle.report.proofs.report.hands_over.Statement.{statement}
-use Rattle.report.proofs.report.hands_over.Tie as tie
+use Rattle.results.proofs.answers.hands_over.Statement.{statement}
+use Rattle.results.proofs.answers.hands_over.Tie as tie
 
 returns : tie.Need-returns
 unfolding handsOver

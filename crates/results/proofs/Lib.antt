@@ -1,0 +1,4 @@
+-- Laws of counting marks.
+pub mod Counting
+pub mod Adding
+pub mod Pieces
