@@ -1,8 +1,8 @@
 -- What is promised of wear reports beyond their definitions (request Q-5); the proofs stand in proofs/.
 use mathlib.Core.Path.{_≡_}
-use mathlib.Core.Logic.{_↔_}
+use mathlib.Core.Logic.{_⊎_, _↔_}
 use mathlib.Core.Bool.{true}
-use mathlib.Core.List.{List, []}
+use mathlib.Core.List.{List, [], _∷_}
 use Prim.Native.Nat.{ℕ, _*_, _≤_}
 use lib.ListN.{length, take}
 use Rattle.scheme.specs.Visit.{select}
@@ -80,5 +80,7 @@ pub record TenNumbers : Type 0 where
   pub written : (numbers : List ℕ) → length numbers ≡ reportNumbers → numbersOf (wearIn numbers) ≡ numbers
   pub refused : (numbers : List ℕ) (store : Result) → (addNumbers numbers store .answer ≡ 0 → ⊥)
       → addNumbers numbers store .numbers ≡ numbers
+  pub answers : (numbers : List ℕ) (store : Result) → addNumbers numbers store .answer ∈ (0 ∷ 7 ∷ 15 ∷ [])
   pub seven : (numbers : List ℕ) (store : Result) → (addNumbers numbers store .answer ≡ 7) ↔ (length numbers ≡ reportNumbers → ⊥)
-  pub compared : (a b : List ℕ) → (compareNumbers a b .answer ≡ 7) ↔ ((length a ≡ reportNumbers) × (length b ≡ reportNumbers) → ⊥)
+  pub compareAnswers : (a b : List ℕ) → compareNumbers a b .answer ∈ (0 ∷ 7 ∷ 15 ∷ [])
+  pub compareSeven : (a b : List ℕ) → (compareNumbers a b .answer ≡ 7) ↔ ((length a ≡ reportNumbers) × (length b ≡ reportNumbers) → ⊥)
