@@ -1,1 +1,2 @@
 -- Laws of wear reports.
+pub mod Refused
