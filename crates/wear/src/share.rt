@@ -8,28 +8,28 @@ ghost use Prim.Native.Nat.{_+_, _*_, _<_};
 ghost use Rattle.tour.specs.Adding.{isReport};
 ghost use Rattle.tour.specs.Share.{orderOf, outOf, shareOrder, compareShares};
 
-// A product of up to 84 bits, which no number holds: `high` times 2^21, and `low`, which is below 2^21.
-struct Product {
+// A number of up to 84 bits, which no integer here holds: `high` times 2^21, and `low`, which is below 2^21.
+struct Wide {
     high: u64,
     low: u64,
 }
 
 // The product of two numbers of 42 bits: the second goes in halves of 21.
-fn product(x: u64, y: u64) -> Product
+fn product(x: u64, y: u64) -> Wide
     requires { ⌜ (x < 4398046511104) × (y < 4398046511104) ⌝ }
     ensures whole { λ r. ⌜ r .high * 2097152 + r .low ≡ x * y ⌝ }
     ensures low { λ r. ⌜ r .low < 2097152 ⌝ }
 {
     let high = x * (y / 2097152);
     let low = x * (y % 2097152);
-    Product {
+    Wide {
         high: high + low / 2097152,
         low: low % 2097152,
     }
 }
 
-// The order of two such products.
-fn order(a: Product, b: Product) -> u32
+// The order of two such numbers.
+fn order(a: Wide, b: Wide) -> u32
     requires { ⌜ (a .low < 2097152) × (b .low < 2097152) ⌝ }
     ensures { λ r. ⌜ r ≡ orderOf (a .high * 2097152 + a .low) (b .high * 2097152 + b .low) ⌝ }
 {

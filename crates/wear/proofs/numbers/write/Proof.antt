@@ -1,0 +1,57 @@
+-- `wear::numbers::write` meets its contract.
+use borrow.Author.Needs.{needs}
+use Rattle.wear.proofs.numbers.write.Statement.{statement}
+use Rattle.wear.proofs.numbers.write.Tie as tie
+
+slice-write-numbers : tie.Need-slice-write-numbers
+slice-write-numbers c = search needs
+
+slice-write-numbers-2 : tie.Need-slice-write-numbers-2
+slice-write-numbers-2 c = search needs
+
+slice-write-numbers-3 : tie.Need-slice-write-numbers-3
+slice-write-numbers-3 c = search needs
+
+slice-write-numbers-4 : tie.Need-slice-write-numbers-4
+slice-write-numbers-4 c = search needs
+
+slice-write-numbers-5 : tie.Need-slice-write-numbers-5
+slice-write-numbers-5 c = ?
+
+slice-write-numbers-6 : tie.Need-slice-write-numbers-6
+slice-write-numbers-6 c = ?
+
+slice-write-numbers-7 : tie.Need-slice-write-numbers-7
+slice-write-numbers-7 c = ?
+
+slice-write-numbers-8 : tie.Need-slice-write-numbers-8
+slice-write-numbers-8 c = ?
+
+slice-write-numbers-9 : tie.Need-slice-write-numbers-9
+slice-write-numbers-9 c = ?
+
+slice-write-numbers-10 : tie.Need-slice-write-numbers-10
+slice-write-numbers-10 c = ?
+
+same-length : tie.Need-same-length
+same-length c = search needs
+
+returns : tie.Need-returns
+returns c = ?
+
+pub write-spec : {M : Type 1} → statement M
+write-spec =
+    tie.close
+    (tie.spec
+    slice-write-numbers
+    slice-write-numbers-2
+    slice-write-numbers-3
+    slice-write-numbers-4
+    slice-write-numbers-5
+    slice-write-numbers-6
+    slice-write-numbers-7
+    slice-write-numbers-8
+    slice-write-numbers-9
+    slice-write-numbers-10
+    same-length
+    returns)
