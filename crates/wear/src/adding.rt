@@ -67,7 +67,7 @@ fn takes(w: Wear, lines: u64, answer: u32) -> bool
     if !report::is_report(w) {
         return false;
     }
-    if w.stores == 1000000 {
+    if 1000000 <= w.stores {
         return false;
     }
     if lines < 4 {

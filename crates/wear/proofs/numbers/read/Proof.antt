@@ -1,4 +1,6 @@
 -- `wear::numbers::read` meets its contract.
+use mathlib.Core.Path.{refl}
+use Rattle.tour.specs.Numbers.{wearIn}
 use borrow.Author.Needs.{needs}
 use Rattle.wear.proofs.numbers.read.Statement.{statement}
 use Rattle.wear.proofs.numbers.read.Tie as tie
@@ -34,7 +36,8 @@ shared-slice-read-t22 : tie.Need-shared-slice-read-t22
 shared-slice-read-t22 c = search needs
 
 returns : tie.Need-returns
-returns c = ?
+unfolding wearIn
+returns c = refl
 
 pub read-spec : {M : Type 1} → statement M
 read-spec =
