@@ -16,6 +16,7 @@ use Rattle.results.proofs.Adding.{counts-tell-marks}
 use Rattle.tour.specs.Wear.{Result, answersOf, wearOf}
 use Rattle.tour.specs.Adding.{mostLines, isReport, isResult, hasRoom, plus, addStore}
 use Rattle.tour.specs.declared.Wear as Declared
+use Rattle.tour.proofs.Counted.{one-store}
 
 -- a million and one more
 pub one-more-fits : (a one found answer : ℕ) → a ≤ 1000000 → one ≡ countOf answer (found ∷ []) → a + one < 18446744073709551616
@@ -69,7 +70,9 @@ module _ (w : Declared.Wear) (marks : List ℕ) (answer : ℕ) where
   unfolding mostLines
   takes-most p =
       leb-true (length marks) 4194304
-      (and-eq-true-iff _ _ .0 (and-eq-true-iff _ _ .0 (and-eq-true-iff _ _ .0 (and-eq-true-iff _ _ .0 p .1) .1) .1) .0)
+      (and-eq-true-iff atMost _ .0
+      (and-eq-true-iff atLeast _ .0 (and-eq-true-iff (hasRoom w) _ .0 (and-eq-true-iff (isReport w) _ .0 p .1) .1) .1)
+      .0)
 
   -- and where they pass, that of the marks, by their counts
   marks-left : Takes ≡ true
@@ -83,14 +86,8 @@ module _ (w : Declared.Wear) (marks : List ℕ) (answer : ℕ) where
   unfolding addStore
   no-marks p q = rw (marks-left p ∙ q)
 
-  -- a report of one store
-  one-store : wearOf (store ∷ [])
-      ≡ record { stores = 1; lines = length marks; marks = countsOf marks; answers = answersOf (answer ∷ []) }
-  unfolding wearOf
-  one-store = rw (add-zero (length marks), append-nil marks)
-
   pub taken : Takes ≡ true → eqb (total (countsOf marks)) (length marks) ≡ true → (next : Declared.Wear)
       → next ≡ plus w (record { stores = 1; lines = length marks; marks = countsOf marks; answers = answersOf (answer ∷ []) })
       → record { answer = 0; wear = next } ≡ addStore w store
   unfolding addStore
-  taken p q next e = rw (marks-left p ∙ q, one-store, e)
+  taken p q next e = rw (marks-left p ∙ q, one-store store, e)

@@ -4,10 +4,9 @@ use mathlib.Core.Bool.{Bool, true, false, cond}
 use Prim.Native.Nat.{ℕ, _+_, _*_, _/_, _%_, _≤_, _<_}
 use native.Mathlib.Nat.{mul-add, mul-left-comm, mul-le-mul}
 use native.Mathlib.Omega.{arith}
-use borrow.Author.Tests.{lt-ltb, le-ltb}
 use lib.Dec.{eqb}
 use Rattle.tour.specs.Adding.{isReport}
-use Rattle.tour.specs.Share.{orderOf, outOf}
+use Rattle.tour.specs.Share.{outOf}
 use Rattle.tour.specs.declared.Wear as Declared
 use Rattle.tour.proofs.Refused.{is-report}
 
@@ -28,19 +27,6 @@ half-fits x h p q =
     let b : h ≤ 2097151 = omega (arith, q) in
     let most : x * h ≤ 4398046511103 * 2097151 = mul-le-mul a b in
     omega (arith, most)
-
--- the order of two numbers, where it is known
-pub smaller : (x y : ℕ) → x < y → _≡_ {A = ℕ} 1 (orderOf x y)
-unfolding orderOf
-smaller x y h = rw (lt-ltb x y h)
-
-pub greater : (x y : ℕ) → y < x → _≡_ {A = ℕ} 2 (orderOf x y)
-unfolding orderOf
-greater x y h = rw (le-ltb x y (omega (arith, h)), lt-ltb y x h)
-
-pub equal : (x y : ℕ) → x ≡ y → _≡_ {A = ℕ} 0 (orderOf x y)
-unfolding orderOf
-equal x y e = rw (le-ltb x y (omega (arith, e)), le-ltb y x (omega (arith, e)))
 
 -- a report's numbers have 42 bits
 pub rebuilt-fits : (w : Declared.Wear) → isReport w ≡ true → w .marks .rebuilt < 4398046511104

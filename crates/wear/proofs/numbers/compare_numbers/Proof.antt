@@ -1,13 +1,18 @@
 -- `wear::numbers::compare_numbers` meets its contract.
+use mathlib.Core.Path.{sym}
+use borrow.Author.Tests.{eq-eqb, ne-eqb}
+use Rattle.tour.specs.Numbers.{reportNumbers, compareNumbers}
 use borrow.Author.Needs.{needs}
 use Rattle.wear.proofs.numbers.compare_numbers.Statement.{statement}
 use Rattle.wear.proofs.numbers.compare_numbers.Tie as tie
 
 returns : tie.Need-returns
-returns c = ?
+unfolding compareNumbers reportNumbers
+returns c = rw (ne-eqb _ _ (c .if1 .taken))
 
 returns-2 : tie.Need-returns-2
-returns-2 c = ?
+unfolding compareNumbers reportNumbers
+returns-2 c = rw (eq-eqb _ _ (c .before .if1 .left), ne-eqb _ _ (c .if2 .taken))
 
 read-requires : tie.Need-read-requires
 read-requires c κs = search needs
@@ -19,7 +24,9 @@ compare-requires : tie.Need-compare-requires
 compare-requires c κs = search needs
 
 returns-3 : tie.Need-returns-3
-returns-3 c = ?
+unfolding compareNumbers reportNumbers
+returns-3 c =
+    rw (eq-eqb _ _ (c .before .before .before .before .if1 .left), eq-eqb _ _ (c .before .before .before .if2 .left), sym (c .before .before .read .ensures), sym (c .before .read2 .ensures)) (c .compare .ensures)
 
 pub compare-numbers-spec : {M : Type 1} → statement M
 compare-numbers-spec =
