@@ -1,4 +1,6 @@
 -- Laws of wear reports.
 pub mod Refused
+pub mod Counted
 pub mod Numbers
 pub mod Shares
+pub mod Repaired

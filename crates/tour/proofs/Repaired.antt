@@ -1,0 +1,66 @@
+-- What repair hands over is a result that a report takes in, and what it refuses is none.
+use mathlib.Core.Path.{_≡_, refl, sym, ap, _∙_}
+use mathlib.Core.Bool.{Bool, true, false, _&&_, and-false}
+use Prim.Native.Nat.{ℕ, _*_, _≤_}
+use native.Mathlib.Nat.{mul-le-mul}
+use native.Mathlib.Omega.{arith}
+use borrow.Author.Tests.{eq-eqb}
+use lib.Dec.{leb}
+use lib.ListN.{length}
+use Rattle.scheme.specs.Layer.{readLine}
+use Rattle.scheme.specs.Marks.{LineMarks}
+use Rattle.scheme.proofs.Marking.{repair-marks}
+use Rattle.rectangle.specs.Store.{lineLayer, linesIn}
+use Rattle.rectangle.specs.Refusals.{every}
+use Rattle.rectangle.specs.Repair.{Buffers, repairedBy, handsOver, handedOver}
+use Rattle.rectangle.proofs.Area.{area}
+use Rattle.rectangle.proofs.Buffer.{length-linesIn}
+use Rattle.rectangle.proofs.Groups.{Sides, sides}
+use Rattle.rectangle.proofs.LineLayer.{kept}
+use Rattle.demands.specs.Demands.{Rectangle, count, repairOf, groupsOf, stepsOn}
+use Rattle.demands.proofs.Refused.{handed, sizes}
+use Rattle.results.proofs.Adding.{counts-add-up, counts-tell-marks}
+use Rattle.tour.specs.Wear.{Result}
+use Rattle.tour.specs.Adding.{isResult}
+use Rattle.tour.specs.Promises.{resultOf, RepairGivesResult}
+use Rattle.tour.proofs.Refused.{ResultKept, result-is}
+
+module _ (r : Rectangle) (work : Buffers) where
+  marks-given : handsOver (repairOf r work .answer) ≡ true → LineMarks (count r) (repairOf r work .marks)
+  unfolding handedOver repairedBy
+  marks-given h =
+      let found = linesIn (count r) (r .lines) in
+      let given = repair-marks lineLayer kept (groupsOf r) found in
+      rw (handed r work h) (record { each = given .each ∙ length-linesIn (count r) (r .lines); high = given .high })
+
+  lines-given : handsOver (repairOf r work .answer) ≡ true → (4 ≤ count r) × (count r ≤ 262144)
+  lines-given h =
+      let fit = sizes r work h .sides in
+      let s : Sides (r .rows) (r .columns) = sides (r .rows) (r .columns) fit in
+      let least : 2 * 2 ≤ r .rows * r .columns = mul-le-mul (s .rowsLow) (s .columnsLow) in
+      (least, area (r .rows) (r .columns) fit)
+
+  result-given : handsOver (repairOf r work .answer) ≡ true → isResult (resultOf (repairOf r work)) ≡ true
+  result-given h =
+      let given = repairOf r work .marks in
+      let marks = marks-given h in
+      let lines = lines-given h in
+      result-is _
+      (record {
+        least = omega (arith, marks .each, lines .0);
+        most = omega (arith, marks .each, lines .1);
+        marks = sym (counts-tell-marks given) ∙ eq-eqb _ _ (counts-add-up given (marks .high));
+        answer = h;
+      })
+
+-- a result's answer hands over
+not-result : (store : Result) → handsOver (store .answer) ≡ false → isResult store ≡ false
+unfolding isResult
+not-result store e = simp (and-false, e)
+
+pub repair-gives-result : RepairGivesResult
+repair-gives-result r work = go (handsOver (repairOf r work .answer)) refl
+  where
+    go : (b : Bool) → handsOver (repairOf r work .answer) ≡ b → isResult (resultOf (repairOf r work)) ≡ b
+    go true h = result-given r work h
+    go false h = not-result (resultOf (repairOf r work)) h
