@@ -1,5 +1,6 @@
 -- The five counts add up to the marks, exactly where all of them are 0 to 4.
 use mathlib.Core.Path.{_≡_, refl, sym, _∙_}
+use mathlib.Core.Logic.{_↔_}
 use mathlib.Core.Bool.{Bool, true, false, _&&_, true≢false, and-eq-true-iff}
 use mathlib.Core.List.{List, [], _∷_}
 use Prim.Native.Nat.{ℕ, zero, suc, _≤_, _<_}
@@ -73,12 +74,21 @@ counts-tell-marks marks = go (every isMark marks) refl
     go false e =
         let less = tells marks .some e in ne-eqb (total (countsOf marks)) (length marks) (λ f. omega (arith, less, f))
 
+-- every one of a list is a mark, by its places
+marks-high : (l : List ℕ) → every isMark l ≡ true → (n : ℕ) → n < length l → getD l n 0 ≤ 4
+marks-high [] e n h = let z : ⊥ = omega arith in absurd z
+marks-high (m ∷ l) e zero h = leb-true m 4 (and-eq-true-iff (isMark m) _ .0 e .0)
+marks-high (m ∷ l) e (suc n) h = marks-high l (and-eq-true-iff (isMark m) _ .0 e .1) n (omega arith)
+
+high-marks : (l : List ℕ) → ((n : ℕ) → n < length l → getD l n 0 ≤ 4) → every isMark l ≡ true
+high-marks [] h = refl
+high-marks (m ∷ l) h = rw (le-leb m 4 (h 0 (omega arith))) (high-marks l (λ n i. h (suc n) (omega (arith, i))))
+
+pub all-marks : (l : List ℕ) → (every isMark l ≡ true) ↔ ((n : ℕ) → n < length l → getD l n 0 ≤ 4)
+all-marks l = (marks-high l, high-marks l)
+
 pub counts-add-up : CountsAddUp
-counts-add-up marks small = tells marks .all (go marks small)
-  where
-    go : (l : List ℕ) → ((n : ℕ) → n < length l → getD l n 0 ≤ 4) → every isMark l ≡ true
-    go [] h = refl
-    go (m ∷ l) h = rw (le-leb m 4 (h 0 (omega arith))) (go l (λ n i. h (suc n) (omega (arith, i))))
+counts-add-up marks small = tells marks .all (high-marks marks small)
 
 pub counts-few : (marks : List ℕ) → total (countsOf marks) ≤ length marks
 counts-few marks = tells marks .most

@@ -1,25 +1,24 @@
 -- A report counts the list of stores that were taken in.
 use mathlib.Core.Path.{_≡_, refl, sym, ap, _∙_}
-use mathlib.Core.Bool.{Bool, true, false, cond, _||_, false≢true, and-eq-true-iff}
+use mathlib.Core.Bool.{Bool, true, false}
 use mathlib.Core.List.{List, [], _∷_, _++_, map, map-append, append-nil, append-assoc}
 use Prim.Native.Nat.{ℕ, zero, suc, _+_, _-_, _*_, _≤_, _<_}
 use native.Mathlib.Nat.{add-zero, zero-add, add-assoc}
 use native.Mathlib.Omega.{arith}
-use borrow.Author.Tests.{ltb-true, ltb-false, lt-ltb, le-ltb, eqb-true}
-use lib.Dec.{eqb, leb, ltb}
+use borrow.Author.Tests.{lt-ltb, le-ltb, eqb-true}
+use lib.Dec.{eqb}
 use lib.ListN.{length, take, length-append}
 use Rattle.scheme.specs.Visit.{select}
-use Rattle.rectangle.specs.Repair.{handsOver}
-use Rattle.results.specs.Marks.{countOf, countsOf, total, plusCounts}
+use Rattle.scheme.specs.Demand3.{_∈_}
+use Rattle.rectangle.proofs.Tests.{every-at}
+use Rattle.results.specs.Marks.{countOf, countsOf, plusCounts}
 use Rattle.results.proofs.Counting.{count-together, counts-together}
-use Rattle.results.proofs.Adding.{counts-tell-marks}
+use Rattle.results.proofs.Adding.{counts-add-up}
 use Rattle.tour.specs.Wear.{Result, linesOf, marksOf, answersOf, wearOf, empty}
-use Rattle.tour.specs.Adding.{mostStores, mostLines, answersTotal, isReport, isResult, hasRoom, plusAnswers, plus, addStore, addAll, takenIn}
-use Rattle.tour.specs.Promises.{CountedFrom, Counted, StaysReport}
-use Rattle.tour.specs.declared.Answers.{Answers}
+use Rattle.tour.specs.Adding.{mostStores, answersTotal, isResult, hasRoom, plusAnswers, plus, addStore, addAll, takenIn}
+use Rattle.tour.specs.Promises.{IsReport, IsResult, Counted, StaysReport}
 use Rattle.tour.specs.declared.Wear as Declared
-use Rattle.tour.specs.declared.Added.{Added}
-use Rattle.tour.proofs.Refused.{Report, is-report, report-is, ResultKept, is-result, takes, added-taken, added-refused}
+use Rattle.tour.proofs.Refused.{report-is, takes, added-taken, added-refused, tests}
 
 -- ---- lists of stores one after the other
 lines-together : (a b : List Result) → linesOf (a ++ b) ≡ linesOf a + linesOf b
@@ -86,56 +85,44 @@ added-all (store ∷ results) w = go (takes w store) refl (added-all results)
     go false e later = rw (added-refused w store e) (later w)
 
 -- ---- a report with one result more is a report
-one-answer : (answer : ℕ) → handsOver answer ≡ true → answersTotal (answersOf (answer ∷ [])) ≡ 1
-unfolding handsOver answersOf countOf
-one-answer answer = go (eqb answer 0) (eqb answer 11) (eqb answer 12) refl refl refl
-  where
-    go : (a b c : Bool) → eqb answer 0 ≡ a → eqb answer 11 ≡ b → eqb answer 12 ≡ c → a || (b || c) ≡ true
-        → answersTotal (answersOf (answer ∷ [])) ≡ 1
-    go true b c p q r h = rw (eqb-true answer 0 p)
-    go false true c p q r h = rw (eqb-true answer 11 q)
-    go false false true p q r h = rw (eqb-true answer 12 r)
-    go false false false p q r h = absurd (false≢true h)
+one-answer : (answer : ℕ) → answer ∈ (0 ∷ 11 ∷ 12 ∷ []) → answersTotal (answersOf (answer ∷ [])) ≡ 1
+unfolding answersOf countOf
+one-answer answer i = eqb-true _ 1 (every-at (λ a. eqb (answersTotal (answersOf (a ∷ []))) 1) (0 ∷ 11 ∷ 12 ∷ []) refl answer i)
 
-one-report : (store : Result) → isResult store ≡ true → Report (wearOf (store ∷ []))
-one-report store e =
-    let kept = is-result store e in
+one-report : (store : Result) → IsResult store → IsReport (wearOf (store ∷ []))
+one-report store r =
     rw (one-store store)
     (record {
-      few = omega arith;
-      lines = omega (arith, kept .most);
-      marks = eqb-true _ _ (counts-tell-marks (store .marks) ∙ kept .marks);
-      answers = one-answer (store .answer) (kept .answer);
+      stores = omega arith;
+      lines = omega (arith, r .most);
+      marks = counts-add-up (store .marks) (r .marks);
+      answers = one-answer (store .answer) (r .answer);
     })
 
-more-report : (a b : Declared.Wear) → Report a → Report b → a .stores + b .stores ≤ 1000000 → Report (plus a b)
+more-report : (a b : Declared.Wear) → IsReport a → IsReport b → a .stores + b .stores ≤ 1000000 → IsReport (plus a b)
 unfolding plus plusCounts plusAnswers
 more-report a b p q few =
     record {
-      few = few;
+      stores = few;
       lines = omega (arith, p .lines, q .lines);
       marks = omega (arith, p .marks, q .marks);
       answers = omega (arith, p .answers, q .answers);
     }
 
 pub stays-report : StaysReport
-unfolding hasRoom mostStores wearOf
+unfolding wearOf
 stays-report w store r = go (takes w store) refl
   where
-    one : Declared.Wear
-    one = wearOf (store ∷ [])
-
-    go : (b : Bool) → takes w store ≡ b → isReport (addStore w store .wear) ≡ true
+    go : (b : Bool) → takes w store ≡ b → IsReport (addStore w store .wear)
     go true e =
-        let rest = and-eq-true-iff (isReport w) _ .0 e .1 in
-        let both = and-eq-true-iff (hasRoom w) _ .0 rest in
-        let room : w .stores < 1000000 = ltb-true _ _ (both .0) in
-        rw (added-taken w store e) (report-is _ (more-report w one (is-report w r) (one-report store (both .1)) (omega (arith, room))))
+        let passed = tests w store .0 e in
+        rw (added-taken w store e)
+        (more-report w (wearOf (store ∷ [])) r (one-report store (passed .2)) (omega (arith, passed .1)))
     go false e = rw (added-refused w store e) r
 
 -- ---- which stores are taken in: those that are results, while there is room
-module _ (store : Result) (results : List Result) (w : Declared.Wear) (r : isReport w ≡ true)
-    (later : (v : Declared.Wear) (room : ℕ) → isReport v ≡ true → v .stores + room ≡ mostStores
+module _ (store : Result) (results : List Result) (w : Declared.Wear) (r : IsReport w)
+    (later : (v : Declared.Wear) (room : ℕ) → IsReport v → v .stores + room ≡ mostStores
     → takenIn v results ≡ take room (select isResult results)) where
   -- one more, where the report has room
   one-stored : (room : ℕ) → w .stores + suc room ≡ mostStores → plus w (wearOf (store ∷ [])) .stores + room ≡ mostStores
@@ -150,22 +137,22 @@ module _ (store : Result) (results : List Result) (w : Declared.Wear) (r : isRep
       go : (b : Bool) → isResult store ≡ b → hasRoom w ≡ true
           → takenIn w (store ∷ results) ≡ take (suc room) (select isResult (store ∷ results))
       go true e h =
-          let t : takes w store ≡ true = rw (r, h, e) in
+          let t : takes w store ≡ true = rw (report-is w r, h, e) in
           let next = stays-report w store r in
           rw (added-taken w store t, e)
           (ap (λ (l : List Result). store ∷ l)
           (later (plus w (wearOf (store ∷ []))) room (rw (added-taken w store t) at next) (one-stored room f)))
       go false e h =
-          let t : takes w store ≡ false = rw (r, h, e) in rw (added-refused w store t, e) (later w (suc room) r f)
+          let t : takes w store ≡ false = rw (report-is w r, h, e) in rw (added-refused w store t, e) (later w (suc room) r f)
 
   -- and none, where it is full
   taken-none : w .stores + 0 ≡ mostStores → takenIn w (store ∷ results) ≡ []
   unfolding hasRoom
   taken-none f =
-      let t : takes w store ≡ false = rw (r, le-ltb (w .stores) mostStores (omega (arith, f))) in
+      let t : takes w store ≡ false = rw (report-is w r, le-ltb (w .stores) mostStores (omega (arith, f))) in
       rw (added-refused w store t) (later w 0 r f)
 
-pub taken-from : (results : List Result) (w : Declared.Wear) (room : ℕ) → isReport w ≡ true → w .stores + room ≡ mostStores
+pub taken-from : (results : List Result) (w : Declared.Wear) (room : ℕ) → IsReport w → w .stores + room ≡ mostStores
     → takenIn w results ≡ take room (select isResult results)
 taken-from [] w zero r f = refl
 taken-from [] w (suc room) r f = refl
@@ -173,11 +160,11 @@ taken-from (store ∷ results) w zero r f = taken-none store results w r (taken-
 taken-from (store ∷ results) w (suc room) r f = taken-more store results w r (taken-from results) room f
 
 -- ---- from the empty report on
-empty-report : isReport empty ≡ true
-unfolding isReport wearOf countsOf answersOf countOf mostStores mostLines
-empty-report = refl
+empty-report : IsReport empty
+unfolding wearOf countsOf answersOf countOf
+empty-report = record { stores = omega arith; lines = omega arith; marks = refl; answers = refl }
 
-all-report : (results : List Result) (w : Declared.Wear) → isReport w ≡ true → isReport (addAll w results) ≡ true
+all-report : (results : List Result) (w : Declared.Wear) → IsReport w → IsReport (addAll w results)
 all-report [] w r = r
 all-report (store ∷ results) w r = all-report results (addStore w store .wear) (stays-report w store r)
 
@@ -186,7 +173,7 @@ unfolding wearOf
 counted results =
     let from-none : addAll empty results ≡ wearOf (takenIn empty results) =
         added-all results empty ∙ sym (together [] (takenIn empty results)) in
-    let end : Report (addAll empty results) = is-report _ (all-report results empty empty-report) in
+    let end = all-report results empty empty-report in
     record {
       report = from-none;
       taken = taken-from results empty mostStores empty-report (zero-add mostStores);

@@ -1,5 +1,5 @@
 -- A report as ten numbers: both round trips, and the answers 0, 7 and 15.
-use mathlib.Core.Path.{_≡_, refl}
+use mathlib.Core.Path.{_≡_, refl, ap}
 use mathlib.Core.Logic.{_↔_, inl, inr, Iff·trans, Iff·not, Iff·and}
 use mathlib.Core.Bool.{Bool, true, false, cond, _&&_, false≢true, and-eq-true-iff}
 use mathlib.Core.List.{List, [], _∷_}
@@ -10,11 +10,12 @@ use lib.Dec.{eqb}
 use lib.ListN.{length, getD}
 use Rattle.scheme.specs.Demand3.{_∈_}
 use Rattle.rectangle.proofs.Tests.{not-among, either-way}
-use Rattle.tour.specs.Wear.{Result}
+use Rattle.results.specs.Marks.{countOf, countsOf}
+use Rattle.tour.specs.Wear.{Result, answersOf, wearOf}
 use Rattle.tour.specs.Adding.{isReport, addStore}
 use Rattle.tour.specs.Share.{compareShares}
 use Rattle.tour.specs.Numbers.{reportNumbers, numbersOf, wearIn, NumbersAdded, addNumbers, compareNumbers}
-use Rattle.tour.specs.Promises.{TenNumbers}
+use Rattle.tour.specs.Promises.{TenNumbers, NumbersRefused}
 use Rattle.tour.specs.declared.Wear as Declared
 use Rattle.tour.specs.declared.Added.{Added}
 use Rattle.tour.specs.declared.Compared.{Compared}
@@ -37,7 +38,7 @@ all-placed [] (suc n) e = let z : ⊥ = omega arith in absurd z
 all-placed (a ∷ l) zero e = let z : ⊥ = omega arith in absurd z
 all-placed (a ∷ l) (suc n) e = rw (all-placed l n (omega arith))
 
-pub written-back : (numbers : List ℕ) → length numbers ≡ reportNumbers → numbersOf (wearIn numbers) ≡ numbers
+pub written-back : (numbers : List ℕ) → length numbers ≡ 10 → numbersOf (wearIn numbers) ≡ numbers
 unfolding wearIn numbersOf reportNumbers placed
 written-back numbers e = all-placed numbers 10 e
 
@@ -45,7 +46,8 @@ written-back numbers e = all-placed numbers 10 e
 abbrev ten : List ℕ → Bool
 ten numbers = eqb (length numbers) reportNumbers
 
-ten-tells : (numbers : List ℕ) → (ten numbers ≡ true) ↔ (length numbers ≡ reportNumbers)
+ten-tells : (numbers : List ℕ) → (ten numbers ≡ true) ↔ (length numbers ≡ 10)
+unfolding reportNumbers
 ten-tells numbers = (eqb-true _ _, eq-eqb _ _)
 
 -- a choice between a result with 0 or 15 and one with 7
@@ -85,12 +87,33 @@ kept numbers store = go (ten numbers) refl
     go true e d = rw (refused .refused (wearIn numbers) store d) (written-back numbers (ten-tells numbers .0 e))
     go false e d = refl
 
+-- and what is not compared has order 0
+not-ordered : (a b : List ℕ) → (compareNumbers a b .answer ≡ 0 → ⊥) → compareNumbers a b .order ≡ 0
+unfolding compareNumbers
+not-ordered a b = go (ten a && ten b)
+  where
+    compared : Bool → Compared
+    compared t = cond t (compareShares (wearIn a) (wearIn b)) (record { answer = 7; order = 0 })
+
+    go : (t : Bool) → (compared t .answer ≡ 0 → ⊥) → compared t .order ≡ 0
+    go true d = ap (λ (c : Compared). c .order) (refused .notCompared (wearIn a) (wearIn b) d)
+    go false d = refl
+
 pub ten-numbers : TenNumbers
-unfolding addNumbers compareNumbers
+unfolding numbersOf wearIn addNumbers compareNumbers reportNumbers wearOf countsOf answersOf countOf
 ten-numbers =
     record {
       read = read-back;
       written = written-back;
+      empty = refl;
+      adds = λ w store. refl;
+      compares = λ a b. refl;
+    }
+
+pub numbers-refused : NumbersRefused
+unfolding addNumbers compareNumbers
+numbers-refused =
+    record {
       refused = kept;
       answers = λ numbers store.
           three-answers (λ (a : NumbersAdded). a .answer) _ _ (added-answers (wearIn numbers) store) refl (ten numbers);
@@ -102,4 +125,5 @@ ten-numbers =
       compareSeven = λ a b.
           Iff·trans (seven-tells (λ (c : Compared). c .answer) _ _ (compared-answers (wearIn a) (wearIn b)) refl (ten a && ten b))
           (Iff·not (Iff·trans (and-eq-true-iff (ten a) (ten b)) (Iff·and (ten-tells a) (ten-tells b))));
+      notCompared = not-ordered;
     }

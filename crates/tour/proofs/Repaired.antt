@@ -4,7 +4,6 @@ use mathlib.Core.Bool.{Bool, true, false, _&&_, and-false}
 use Prim.Native.Nat.{ℕ, _*_, _≤_}
 use native.Mathlib.Nat.{mul-le-mul}
 use native.Mathlib.Omega.{arith}
-use borrow.Author.Tests.{eq-eqb}
 use lib.Dec.{leb}
 use lib.ListN.{length}
 use Rattle.scheme.specs.Layer.{readLine}
@@ -19,11 +18,10 @@ use Rattle.rectangle.proofs.Groups.{Sides, sides}
 use Rattle.rectangle.proofs.LineLayer.{kept}
 use Rattle.demands.specs.Demands.{Rectangle, count, repairOf, groupsOf, stepsOn}
 use Rattle.demands.proofs.Refused.{handed, sizes}
-use Rattle.results.proofs.Adding.{counts-add-up, counts-tell-marks}
 use Rattle.tour.specs.Wear.{Result}
 use Rattle.tour.specs.Adding.{isResult}
 use Rattle.tour.specs.Promises.{resultOf, RepairGivesResult}
-use Rattle.tour.proofs.Refused.{ResultKept, result-is}
+use Rattle.tour.proofs.Refused.{hands-over, result-is}
 
 module _ (r : Rectangle) (work : Buffers) where
   marks-given : handsOver (repairOf r work .answer) ≡ true → LineMarks (count r) (repairOf r work .marks)
@@ -42,15 +40,14 @@ module _ (r : Rectangle) (work : Buffers) where
 
   result-given : handsOver (repairOf r work .answer) ≡ true → isResult (resultOf (repairOf r work)) ≡ true
   result-given h =
-      let given = repairOf r work .marks in
       let marks = marks-given h in
       let lines = lines-given h in
       result-is _
       (record {
         least = omega (arith, marks .each, lines .0);
         most = omega (arith, marks .each, lines .1);
-        marks = sym (counts-tell-marks given) ∙ eq-eqb _ _ (counts-add-up given (marks .high));
-        answer = h;
+        marks = marks .high;
+        answer = hands-over _ h;
       })
 
 -- a result's answer hands over

@@ -8,9 +8,8 @@ use native.Mathlib.Omega.{arith}
 use borrow.Author.Tests.{ltb-true, ltb-false, lt-ltb, le-ltb, eqb-true, eqb-false, eq-eqb, ne-eqb}
 use lib.Dec.{eqb, ltb}
 use Rattle.tour.specs.Share.{orderOf, outOf, shareOrder}
-use Rattle.tour.specs.Promises.{HasShare, SharesCompared, OrdersReports}
+use Rattle.tour.specs.Promises.{IsReport, HasShare, SharesCompared, OrdersReports}
 use Rattle.tour.specs.declared.Wear as Declared
-use Rattle.tour.proofs.Refused.{Report, is-report}
 
 -- ---- the order of two numbers
 pub order-same : (x y : ℕ) → x ≡ y → orderOf x y ≡ 0
@@ -132,7 +131,7 @@ module _ (w : Declared.Wear) where
       go (inr h) = omega (arith, out-some h)
 
   -- a report's share, as one equation
-  module _ (x m : ℕ) (r : Report w) where
+  module _ (x m : ℕ) (r : IsReport w) where
     share-is : HasShare w x m → w .marks .rebuilt * m ≡ x * outOf w
     share-is h = go lines-or-none
       where
@@ -162,11 +161,11 @@ shares-compared a b ra rb =
     let some = one-le-mul (out-least a) (out-least b) in
     record {
       agrees = λ x y m h k.
-          cross p q r s x y m (out-least a) (out-least b) (h .some) (share-is a x m (is-report a ra) h) (share-is b y m (is-report b rb) k);
+          cross p q r s x y m (out-least a) (out-least b) (h .some) (share-is a x m ra h) (share-is b y m rb k);
       common =
           (q * s, p * s, r * q,
-          is-share a (p * s) (q * s) (is-report a ra) some (ap (λ (n : ℕ). p * n) (mul-comm q s) ∙ sym (mul-assoc p s q)),
-          is-share b (r * q) (q * s) (is-report b rb) some (sym (mul-assoc r q s)));
+          is-share a (p * s) (q * s) ra some (ap (λ (n : ℕ). p * n) (mul-comm q s) ∙ sym (mul-assoc p s q)),
+          is-share b (r * q) (q * s) rb some (sym (mul-assoc r q s)));
     }
 
 -- ---- three reports: their order is that of three numbers

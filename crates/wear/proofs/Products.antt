@@ -30,7 +30,7 @@ half-fits x h p q =
 
 -- a report's numbers have 42 bits
 pub rebuilt-fits : (w : Declared.Wear) → isReport w ≡ true → w .marks .rebuilt < 4398046511104
-rebuilt-fits w e = let r = is-report w e in omega (arith, r .few, r .lines, r .marks)
+rebuilt-fits w e = let r = is-report w e in omega (arith, r .stores, r .lines, r .marks)
 
 pub out-of-fits : (w : Declared.Wear) → isReport w ≡ true → outOf w < 4398046511104
 unfolding outOf
@@ -38,4 +38,4 @@ out-of-fits w e = go (eqb (w .lines) 0)
   where
     go : (t : Bool) → cond t 1 (w .lines) < 4398046511104
     go true = omega arith
-    go false = let r = is-report w e in omega (arith, r .few, r .lines)
+    go false = let r = is-report w e in omega (arith, r .stores, r .lines)
