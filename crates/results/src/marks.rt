@@ -77,29 +77,19 @@ fn count_piece(marks: &[u8]) -> Counts
     }
 }
 
-// Where a piece that starts at i ends.
-fn piece_end(i: usize, len: usize) -> usize
-    requires { ⌜ i < len ⌝ }
-    ensures { λ r. ⌜ (i < r) × (r ≤ len) × (r ≤ i + 192) ⌝ }
-{
-    if len - i < 192 {
-        return len;
-    }
-    i + 192
-}
-
-// The counts of all five marks, piece after piece.
+// The counts of all five marks: whole pieces, whose length the compiler then knows, and the rest.
 pub fn count_all(marks: &[u8]) -> Counts
     ensures { λ r. ⌜ r ≡ countsOf (now (marks .entry)) ⌝ }
 {
     let mut counts = none();
     let mut i = 0;
-    while i < marks.len() {
-        let end = piece_end(i, marks.len());
+    while 192 <= marks.len() - i {
+        let end = i + 192;
         let piece = count_piece(&marks[i..end]);
         let next = plus(counts, piece);
         counts = next;
         i = end;
     }
-    counts
+    let rest = count_piece(&marks[i..]);
+    plus(counts, rest)
 }

@@ -172,7 +172,7 @@ pub counted : Counted
 unfolding wearOf
 counted results =
     let from-none : addAll empty results ≡ wearOf (takenIn empty results) =
-        added-all results empty ∙ sym (together [] (takenIn empty results)) in
+    added-all results empty ∙ sym (together [] (takenIn empty results)) in
     let end = all-report results empty empty-report in
     record {
       report = from-none;

@@ -101,12 +101,13 @@ module _ {A : Type 0} (answer : A → ℕ) (x y : A) (zero : answer x ≡ 0) whe
   not-taken false d = refl
 
 pub tests : (w : Declared.Wear) (store : Result) → (takes w store ≡ true) ↔ (IsReport w × (w .stores < 1000000) × IsResult store)
-tests w store =
-    (λ e.
+tests w store = (
+  λ e.
       let one = and-eq-true-iff (isReport w) _ .0 e in
       let two = and-eq-true-iff (hasRoom w) (isResult store) .0 (one .1) in
       (is-report w (one .0), room w .0 (two .0), is-result store (two .1)),
-    λ t. rw (report-is w (t .0), room w .1 (t .1), result-is store (t .2)))
+  λ t. rw (report-is w (t .0), room w .1 (t .1), result-is store (t .2)),
+)
 
 pub refused : Refused
 unfolding addStore compareShares

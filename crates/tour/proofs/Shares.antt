@@ -162,10 +162,13 @@ shares-compared a b ra rb =
     record {
       agrees = λ x y m h k.
           cross p q r s x y m (out-least a) (out-least b) (h .some) (share-is a x m ra h) (share-is b y m rb k);
-      common =
-          (q * s, p * s, r * q,
-          is-share a (p * s) (q * s) ra some (ap (λ (n : ℕ). p * n) (mul-comm q s) ∙ sym (mul-assoc p s q)),
-          is-share b (r * q) (q * s) rb some (sym (mul-assoc r q s)));
+      common = (
+        q * s,
+        p * s,
+        r * q,
+        is-share a (p * s) (q * s) ra some (ap (λ (n : ℕ). p * n) (mul-comm q s) ∙ sym (mul-assoc p s q)),
+        is-share b (r * q) (q * s) rb some (sym (mul-assoc r q s)),
+      );
     }
 
 -- ---- three reports: their order is that of three numbers

@@ -15,9 +15,9 @@ pub in-halves : (x y : ℕ) → (x * (y / 2097152) + x * (y % 2097152) / 2097152
 in-halves x y =
     let split : 2097152 * (y / 2097152) + y % 2097152 ≡ y = omega arith in
     let spread : x * y ≡ 2097152 * (x * (y / 2097152)) + x * (y % 2097152) =
-        ap (λ (n : ℕ). x * n) (sym split)
-        ∙ mul-add x (2097152 * (y / 2097152)) (y % 2097152)
-        ∙ ap (λ (n : ℕ). n + x * (y % 2097152)) (mul-left-comm x 2097152 (y / 2097152)) in
+    ap (λ (n : ℕ). x * n) (sym split)
+    ∙ mul-add x (2097152 * (y / 2097152)) (y % 2097152)
+    ∙ ap (λ (n : ℕ). n + x * (y % 2097152)) (mul-left-comm x 2097152 (y / 2097152)) in
     omega (arith, spread)
 
 -- a number of 42 bits times one of 21

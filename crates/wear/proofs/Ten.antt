@@ -24,7 +24,7 @@ stored-all [] l i e = sym (append-nil (take i l) ∙ take-all i l (omega (arith,
 stored-all (x ∷ xs) l i e =
     let long = length-set l i x in
     let front : take (i + 1) (set l i x) ≡ take i l ++ (x ∷ []) =
-        ap (λ (n : ℕ). take n (set l i x)) (add-one i) ∙ take-suc-set l i x (omega (arith, e)) in
+    ap (λ (n : ℕ). take n (set l i x)) (add-one i) ∙ take-suc-set l i x (omega (arith, e)) in
     stored-all xs (set l i x) (i + 1) (omega (arith, e, long))
     ∙ ap (λ (f : List ℕ). f ++ xs) front
     ∙ append-assoc (take i l) (x ∷ []) xs
