@@ -32,7 +32,7 @@ marks-together (store ∷ a) b =
 
 answers-together : (a b : List ℕ) → answersOf (a ++ b) ≡ plusAnswers (answersOf a) (answersOf b)
 unfolding answersOf plusAnswers
-answers-together a b = rw (count-together 0 a b, count-together 11 a b, count-together 12 a b)
+answers-together a b = simp count-together
 
 abbrev answerOf : Result → ℕ
 answerOf store = store .answer

@@ -22,8 +22,9 @@ fn product(x: u64, y: u64) -> Wide
 {
     let high = x * (y / 2097152);
     let low = x * (y % 2097152);
+    let top = high + low / 2097152;
     Wide {
-        high: high + low / 2097152,
+        high: top,
         low: low % 2097152,
     }
 }

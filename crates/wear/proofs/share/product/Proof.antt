@@ -14,8 +14,8 @@ mul-low : tie.Need-mul-low
 mul-low c =
     let most = half-fits (c .args .x) (c .args .y % 2097152) (c .pre .0) (omega arith) in record { fits = omega (arith, most) }
 
-add-t6 : tie.Need-add-t6
-add-t6 c =
+add-top : tie.Need-add-top
+add-top c =
     let high = half-fits (c .args .x) (c .args .y / 2097152) (c .pre .0) (omega (arith, c .pre .1)) in
     let low = half-fits (c .args .x) (c .args .y % 2097152) (c .pre .0) (omega arith) in
     record { fits = omega (arith, high, low) }
@@ -24,4 +24,4 @@ returns : tie.Need-returns
 returns c = (in-halves (c .args .x) (c .args .y), omega arith)
 
 pub product-spec : {M : Type 1} → statement M
-product-spec = tie.close (tie.spec mul-high mul-low add-t6 returns)
+product-spec = tie.close (tie.spec mul-high mul-low add-top returns)
