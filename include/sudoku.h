@@ -10,10 +10,11 @@
  * row, the column table one for each column: the exclusive or of that row's or column's lines.
  *
  * What a caller owes, since no function can test it:
- * - The length after a pointer is the buffer's true length: so many bytes may be read, and written where they are not const. Any
- *   true length may be handed in; one that the call cannot use is refused. A null pointer goes with length 0 only.
- * - `mark`, `passes`, `number` and `step` are not null. They are returned values: every call sets them, to 0 on refusals but for
- *   three, below.
+ * - The length after a pointer is the buffer's true length: so many bytes, or numbers of a wear report, may be read, and written
+ *   where they are not const. Any true length may be handed in; one that the call cannot use is refused. A null pointer goes with
+ *   length 0 only.
+ * - `mark`, `passes`, `number`, `step` and `order` are not null. They are returned values: every call sets them, to 0 on refusals but
+ *   for three, below.
  * - Writable buffers, these returned values among them, overlap nothing else that is handed in: `row_out` is not `row_table`, nor
  *   `column_out` `column_table`, which repair reads to the end; `line` is no line of `lines` or `out`. Buffers that are only read may
  *   overlap each other.
@@ -39,6 +40,8 @@
  *   agree, and any line can be changed. Or load that table anew. The row is tested first: with 13 the column's may be bad too.
  * - Lines and tables of zero bytes are a valid store, all lines and parity lines correct. Memory that was cleared cannot be told
  *   from a store of empty captions.
+ * - A wear report is ten numbers, and the empty report is ten zeros. sudoku_wear_add counts every result that it is handed, the same
+ *   one again too: call it once for each repair. A refused repair has no result, and adding its answer is refused with 15.
  *
  * Calls keep no state and allocate nothing, so threads may call at once, each on writable buffers of its own.
  *
@@ -87,12 +90,18 @@ extern "C" {
 #define SUDOKU_LEAST_SIDE 2
 #define SUDOKU_GREATEST_SIDE 512
 
+/* A wear report: its numbers, the most stores that it counts, and the lines that a store in it may have. */
+#define SUDOKU_WEAR_NUMBERS 10
+#define SUDOKU_WEAR_MOST_STORES 1000000
+#define SUDOKU_WEAR_LEAST_LINES 4
+#define SUDOKU_WEAR_MOST_LINES 4194304
+
 /*
  * Answers. A call gives the first that fits in this order; 0 if none does. All but 0, 11 and 12 are refusals: all buffers are as
  * they were, and a returned value is 0. Three differ: sudoku_read_line's 10, which gives the line as found and mark 4, and 13 and
  * 14, which give the number of a row or a column, counted from 0. With 11 and 12 everything is given as with 0. (Numbers 1, 3 and 4
  * are about store files and come from no call here. 9 is no longer given: 13 and 14 stand in its place, in a change alone, and are
- * tested after 8 and before 10.)
+ * tested after 8 and before 10. 15 is of wear reports alone.)
  */
 enum sudoku_answer {
     SUDOKU_DONE = 0,           /* done */
@@ -101,6 +110,7 @@ enum sudoku_answer {
     SUDOKU_TABLE = 6,          /* a table, read or written, is not 70 bytes for each of its rows or columns */
     SUDOKU_BUFFER = 7,         /* another buffer has another length: 64 for data, 70 for a line written, as each function says */
     SUDOKU_NUMBER = 8,         /* the line number is not below rows * columns */
+    SUDOKU_WEAR = 15,          /* wear: numbers that are no report, one with 1,000,000 stores already, or no result of a repair */
     SUDOKU_ROW_PARITY = 13,    /* change: the parity line of its row is not a correct line (its spare bits do not count) */
     SUDOKU_COLUMN_PARITY = 14, /* change: the parity line of its column is not a correct line (likewise) */
     SUDOKU_FAULTY = 10,        /* a line to be read alone, changed or summed into tables is faulty */
@@ -122,6 +132,27 @@ enum sudoku_step {
     SUDOKU_STEP_ALONE = 1, /* the line was read alone */
     SUDOKU_STEP_ROW = 2,   /* its row was visited, as repair does */
     SUDOKU_STEP_REPAIR = 3 /* the whole rectangle was repaired */
+};
+
+/* The ten numbers of a wear report, by their places. */
+enum sudoku_wear_place {
+    SUDOKU_WEAR_STORES = 0,    /* stores seen */
+    SUDOKU_WEAR_LINES = 1,     /* lines seen */
+    SUDOKU_WEAR_CLEAN = 2,     /* lines with mark 0; mark m stands at place 2 + m */
+    SUDOKU_WEAR_REWRITTEN = 3, /* mark 1 */
+    SUDOKU_WEAR_TRIAL = 4,     /* mark 2 */
+    SUDOKU_WEAR_REBUILT = 5,   /* mark 3 */
+    SUDOKU_WEAR_FAULTY = 6,    /* mark 4 */
+    SUDOKU_WEAR_DONE = 7,      /* stores with answer 0 */
+    SUDOKU_WEAR_LEFT = 8,      /* answer 11 */
+    SUDOKU_WEAR_DIFFERS = 9    /* answer 12 */
+};
+
+/* The order of two shares: what the first is beside the second. */
+enum sudoku_order {
+    SUDOKU_ORDER_EQUAL = 0,
+    SUDOKU_ORDER_LESS = 1,
+    SUDOKU_ORDER_GREATER = 2
 };
 
 /*
@@ -202,6 +233,28 @@ uint32_t sudoku_read_one(size_t rows, size_t columns, const uint8_t *lines, size
                          uint8_t *out, size_t out_len, uint8_t *marks, size_t marks_len,
                          uint8_t *row_out, size_t row_out_len, uint8_t *column_out, size_t column_out_len,
                          uint8_t *line, size_t line_len, uint8_t *mark, uint32_t *step);
+
+/*
+ * Takes one repair result into a wear report: `marks`, one for each line, and `answer`, as sudoku_repair has handed them over. `wear`
+ * is ten numbers in the order of enum sudoku_wear_place; ten zeros are the empty report. Stores seen, lines seen, the lines for each
+ * mark and the stores for each answer grow by this one result.
+ *
+ * Answers: 0; 7 if `wear_len` is not 10; 15 if the ten numbers, which may be any, are no report: the lines for each mark do not add
+ * up to the lines, or the stores for each answer to the stores, or there are more than 1,000,000 stores or more than 4,194,304 lines
+ * for each store; 15 also if there are 1,000,000 stores already, or the result is not 4 to 4,194,304 marks of 0 to 4 with answer 0,
+ * 11 or 12. A refusal leaves the report as it was, so that a repair which was refused is counted nowhere.
+ */
+uint32_t sudoku_wear_add(uint64_t *wear, size_t wear_len, const uint8_t *marks, size_t marks_len, uint32_t answer);
+
+/*
+ * Compares the shares of rebuilt lines (mark 3) of two wear reports, exactly and in whole numbers. A report with no lines has share
+ * zero. Sets `order`: 0 if the shares are equal, 1 if the first is smaller, 2 if it is greater. `a` and `b` may be the same: answer 0
+ * then says that these numbers are a report.
+ *
+ * Answers: 0; 7 if `a_len` or `b_len` is not 10; 15 if one of the two is no report, as above. With both refusals `order` is 0, which
+ * says nothing of the shares: test the answer first.
+ */
+uint32_t sudoku_wear_compare(const uint64_t *a, size_t a_len, const uint64_t *b, size_t b_len, uint32_t *order);
 
 #ifdef __cplusplus
 }

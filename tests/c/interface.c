@@ -1,6 +1,6 @@
 /*
- * The C interface from C: samples, refusals, guard bytes, what a read of one line looks at, and how much stack each call takes.
- * Prints what failed; the exit status is 1 if anything did.
+ * The C interface from C: samples, refusals, guard bytes, what a read of one line looks at, wear reports, and how much stack each
+ * call takes. Prints what failed; the exit status is 1 if anything did.
  */
 #define _POSIX_C_SOURCE 200809L
 #include <limits.h>
@@ -901,6 +901,177 @@ static void make_big(void)
     memcpy(big_columns_written, big_columns, sizeof big_columns_written);
 }
 
+/* A wear report and an order that is returned, between guards. */
+enum { NUMBERS = SUDOKU_WEAR_NUMBERS };
+
+static uint64_t wear_all[3 * NUMBERS];
+static uint64_t *const wear = wear_all + NUMBERS;
+static uint32_t order_all[3];
+
+static void set_wear(const uint64_t *numbers)
+{
+    for (size_t i = 0; i < 3 * NUMBERS; i++)
+        wear_all[i] = UNSET;
+    memcpy(wear, numbers, NUMBERS * sizeof *wear);
+}
+
+/* Whether the report is these numbers, and nothing beside it was written. */
+static int wear_is(const uint64_t *numbers)
+{
+    for (size_t i = 0; i < NUMBERS; i++)
+        if (wear_all[i] != UNSET || wear[i] != numbers[i] || wear[NUMBERS + i] != UNSET)
+            return 0;
+    return 1;
+}
+
+/* Whether adding a result to a report gives this answer, and the report `after`. */
+static int adds(const uint64_t *before, const uint8_t *of, size_t count, uint32_t answer, uint32_t expected, const uint64_t *after)
+{
+    set_wear(before);
+    return sudoku_wear_add(wear, NUMBERS, of, count, answer) == expected && wear_is(after);
+}
+
+/* Whether it is refused with 15, and leaves the report as it was. */
+static int not_added(const uint64_t *before, const uint8_t *of, size_t count, uint32_t answer)
+{
+    return adds(before, of, count, answer, SUDOKU_WEAR, before);
+}
+
+/* Whether comparing reports of these lengths gives this answer and order, and nothing beside the order is written. */
+static int compares(const uint64_t *a, size_t a_len, const uint64_t *b, size_t b_len, uint32_t answer, uint32_t order)
+{
+    order_all[0] = order_all[1] = order_all[2] = (uint32_t)UNSET;
+    return sudoku_wear_compare(a, a_len, b, b_len, order_all + 1) == answer && order_all[0] == (uint32_t)UNSET
+        && order_all[1] == order && order_all[2] == (uint32_t)UNSET;
+}
+
+/* Whether the first share is smaller, from both sides. */
+static int is_less(const uint64_t *less, const uint64_t *more)
+{
+    return compares(less, NUMBERS, more, NUMBERS, SUDOKU_DONE, SUDOKU_ORDER_LESS)
+        && compares(more, NUMBERS, less, NUMBERS, SUDOKU_DONE, SUDOKU_ORDER_GREATER);
+}
+
+static int are_equal(const uint64_t *a, const uint64_t *b)
+{
+    return compares(a, NUMBERS, b, NUMBERS, SUDOKU_DONE, SUDOKU_ORDER_EQUAL)
+        && compares(b, NUMBERS, a, NUMBERS, SUDOKU_DONE, SUDOKU_ORDER_EQUAL);
+}
+
+/* The empty report; one of three stores; one that has all stores and lines that it can have. */
+#define STORES SUDOKU_WEAR_MOST_STORES
+#define MOST SUDOKU_WEAR_MOST_LINES
+#define ALL_LINES ((uint64_t)STORES * MOST)
+
+static const uint64_t empty[NUMBERS] = {0}, three[NUMBERS] = {3, 15, 3, 3, 3, 3, 3, 1, 1, 1};
+static const uint64_t full[NUMBERS] = {STORES, ALL_LINES, ALL_LINES - 1, 0, 0, 1, 0, STORES, 0, 0};
+static const uint8_t each[5] = {0, 1, 2, 3, 4};
+
+/* Results of every answer, and those of two repairs: one that is done, and one that is refused. */
+static void wear_adding(void)
+{
+    static struct store written;
+    struct sizes sizes = right;
+    uint64_t passes;
+
+    CHECK(SUDOKU_WEAR_STORES == 0 && SUDOKU_WEAR_LINES == 1 && SUDOKU_WEAR_CLEAN == 2 && SUDOKU_WEAR_REWRITTEN == 3);
+    CHECK(SUDOKU_WEAR_TRIAL == 4 && SUDOKU_WEAR_REBUILT == 5 && SUDOKU_WEAR_FAULTY == 6);
+    CHECK(SUDOKU_WEAR_DONE == 7 && SUDOKU_WEAR_LEFT == 8 && SUDOKU_WEAR_DIFFERS == 9 && SUDOKU_WEAR == 15);
+    CHECK(adds(empty, each, 5, SUDOKU_DONE, SUDOKU_DONE, (const uint64_t[NUMBERS]){1, 5, 1, 1, 1, 1, 1, 1, 0, 0}));
+    CHECK(sudoku_wear_add(wear, NUMBERS, each, 5, SUDOKU_LEFT) == SUDOKU_DONE);
+    CHECK(sudoku_wear_add(wear, NUMBERS, each, 5, SUDOKU_DIFFERS) == SUDOKU_DONE && wear_is(three));
+
+    keep(&written);
+    lines[0] ^= 3;
+    lines[LINE] ^= 12;
+    lines[2 * LINE] ^= 1;
+    lines[5 * LINE] ^= 3;
+    CHECK(repairs(SUDOKU_DONE, 1));
+    CHECK(adds(three, marks, COUNT, SUDOKU_DONE, SUDOKU_DONE, (const uint64_t[NUMBERS]){4, 21, 5, 4, 5, 4, 3, 2, 1, 1}));
+    CHECK(INTACT(marks));
+    sizes.out--;
+    CHECK(not_added(three, marks, COUNT, repair_sized(sizes, &passes)));
+    put_back(&written);
+}
+
+/* Another length is 7, whatever else is wrong; then each thing that 15 is given for. */
+static void wear_refusals(void)
+{
+    set_wear(empty);
+    CHECK(sudoku_wear_add(NULL, 0, each, 5, SUDOKU_DONE) == SUDOKU_BUFFER);
+    CHECK(sudoku_wear_add(wear, NUMBERS - 1, each, 5, SUDOKU_DONE) == SUDOKU_BUFFER);
+    CHECK(sudoku_wear_add(wear, NUMBERS + 1, NULL, 0, 9) == SUDOKU_BUFFER && wear_is(empty));
+
+    CHECK(not_added(three, NULL, 0, SUDOKU_DONE) && not_added(three, each, 3, SUDOKU_DONE));
+    CHECK(not_added(three, (const uint8_t[4]){0, 0, 0, 5}, 4, SUDOKU_DONE));
+    CHECK(not_added(three, (const uint8_t[4]){255, 0, 0, 0}, 4, SUDOKU_LEFT));
+    for (uint32_t answer = 1; answer < 300; answer++)
+        if (answer != SUDOKU_LEFT && answer != SUDOKU_DIFFERS)
+            CHECK(not_added(three, each, 5, answer));
+    CHECK(not_added(full, each, 5, SUDOKU_DONE));
+    /* Sums that are right in 64 bits alone. */
+    CHECK(not_added((const uint64_t[NUMBERS]){1, 4, UINT64_MAX, 0, 0, 0, 5, 1, 0, 0}, each, 5, SUDOKU_DONE));
+    CHECK(not_added((const uint64_t[NUMBERS]){1, 4, 4, 0, 0, 0, 0, UINT64_MAX, 0, 2}, each, 5, SUDOKU_DONE));
+    for (size_t place = 0; place < NUMBERS; place++)
+        for (size_t way = 0; way < 3; way++) {
+            uint64_t wrong[NUMBERS];
+
+            memcpy(wrong, three, sizeof wrong);
+            wrong[place] = way == 0 ? UINT64_MAX : way == 1 ? wrong[place] + 1 : wrong[place] - 1;
+            CHECK(not_added(wrong, each, 5, SUDOKU_DONE));
+            CHECK(compares(wrong, NUMBERS, three, NUMBERS, SUDOKU_WEAR, 0));
+            CHECK(compares(empty, NUMBERS, wrong, NUMBERS, SUDOKU_WEAR, 0));
+            CHECK(compares(wrong, NUMBERS, three, NUMBERS - 1, SUDOKU_BUFFER, 0));
+        }
+    CHECK(compares(NULL, 0, full, NUMBERS, SUDOKU_BUFFER, 0) && compares(full, NUMBERS, NULL, 0, SUDOKU_BUFFER, 0));
+    CHECK(compares(full, NUMBERS + 1, full, NUMBERS, SUDOKU_BUFFER, 0) && compares(full, NUMBERS, full, 9, SUDOKU_BUFFER, 0));
+}
+
+/* The greatest result that is taken in makes the greatest report; one mark more, and one line or store more, are refused. */
+static void wear_limits(void)
+{
+    const uint64_t rest = ALL_LINES - MOST, last[NUMBERS] = {STORES - 1, rest, rest, 0, 0, 0, 0, STORES - 1, 0, 0};
+    const uint64_t filled[NUMBERS] = {STORES, ALL_LINES, rest, 0, 0, MOST, 0, STORES - 1, 1, 0};
+    const uint64_t more_lines[NUMBERS] = {1, MOST + 1, MOST + 1, 0, 0, 0, 0, 1, 0, 0};
+    const uint64_t more_stores[NUMBERS] = {STORES + 1, 4, 4, 0, 0, 0, 0, STORES + 1, 0, 0};
+
+    memset(big_out, SUDOKU_MARK_REBUILT, MOST + 1);
+    CHECK(adds(last, big_out, MOST, SUDOKU_LEFT, SUDOKU_DONE, filled));
+    CHECK(not_added(last, big_out, MOST + 1, SUDOKU_LEFT));
+    big_out[MOST - 1] = 5;
+    CHECK(not_added(last, big_out, MOST, SUDOKU_LEFT) && not_added(filled, each, 5, SUDOKU_DONE));
+    CHECK(not_added(more_lines, each, 5, SUDOKU_DONE) && not_added(more_stores, each, 5, SUDOKU_DONE));
+    CHECK(are_equal(filled, filled) && compares(more_lines, NUMBERS, empty, NUMBERS, SUDOKU_WEAR, 0));
+    CHECK(compares(empty, NUMBERS, more_stores, NUMBERS, SUDOKU_WEAR, 0));
+}
+
+/* Shares: none of no lines, equal ones of other numbers, two as near as can be, and two whose products 64 bits would turn round. */
+static void wear_comparing(void)
+{
+    const uint64_t lines_41 = (uint64_t)1 << 41, half = lines_41 / 2;
+    const uint64_t nearly[NUMBERS] = {STORES, ALL_LINES - 1, 0, 1, 0, ALL_LINES - 2, 0, 0, STORES, 0};
+    const uint64_t next[NUMBERS] = {STORES, ALL_LINES, 0, 0, 1, ALL_LINES - 1, 0, 0, 0, STORES};
+
+    CHECK(SUDOKU_ORDER_EQUAL == 0 && SUDOKU_ORDER_LESS == 1 && SUDOKU_ORDER_GREATER == 2);
+    CHECK(are_equal(empty, empty) && are_equal(empty, (const uint64_t[NUMBERS]){1, 4, 4, 0, 0, 0, 0, 1, 0, 0}));
+    CHECK(is_less(empty, full) && is_less(full, three));
+    CHECK(are_equal(three, (const uint64_t[NUMBERS]){1, 10, 0, 0, 8, 2, 0, 0, 1, 0}));
+    CHECK(is_less(nearly, next) && is_less(next, (const uint64_t[NUMBERS]){1, 4, 0, 0, 0, 4, 0, 1, 0, 0}));
+    CHECK(is_less((const uint64_t[NUMBERS]){STORES, lines_41, lines_41 - 1, 0, 0, 1, 0, STORES, 0, 0},
+                  (const uint64_t[NUMBERS]){STORES, lines_41, half, 0, 0, half, 0, STORES, 0, 0}));
+}
+
+static void add_big(void)
+{
+    set_wear(empty);
+    big_answer = sudoku_wear_add(wear, NUMBERS, big_marks, sizeof big_marks, SUDOKU_DONE);
+}
+
+static void compare_big(void)
+{
+    big_answer = compares(full, NUMBERS, full, NUMBERS, SUDOKU_DONE, SUDOKU_ORDER_EQUAL) ? SUDOKU_DONE : SUDOKU_WEAR;
+}
+
 /* That a depth is told: so many bytes of an array, and little more. */
 enum { DEEP = 20000 };
 
@@ -955,6 +1126,17 @@ static int takes_less(void (*call)(void), size_t bytes)
     return 0 < depth && depth < bytes;
 }
 
+/* What all calls take that no repair is part of. */
+static void other_depths(void)
+{
+    CHECK(takes_less(big_tables, 110 * 1024) && big_answer == SUDOKU_DONE);
+    CHECK(takes_less(big_change, 2 * 1024) && big_answer == SUDOKU_DONE);
+    CHECK(takes_less(read_alone, 2 * 1024) && big_answer == SUDOKU_DONE);
+    CHECK(takes_less(write_one, 2 * 1024) && big_answer == SUDOKU_DONE);
+    CHECK(takes_less(add_big, 2 * 1024) && big_answer == SUDOKU_DONE);
+    CHECK(takes_less(compare_big, 2 * 1024) && big_answer == SUDOKU_DONE);
+}
+
 static void stack_depths(void)
 {
     size_t depth;
@@ -987,11 +1169,7 @@ static void stack_depths(void)
     CHECK(one_fits(SIDE + 1, SUDOKU_STEP_REPAIR, SUDOKU_MARK_FAULTY));
     CHECK(runs_within(big_one, REPAIR_STACK) && big_answer == SUDOKU_LEFT && big_step == SUDOKU_STEP_REPAIR);
     put_big_back();
-
-    CHECK(takes_less(big_tables, 110 * 1024) && big_answer == SUDOKU_DONE);
-    CHECK(takes_less(big_change, 2 * 1024) && big_answer == SUDOKU_DONE);
-    CHECK(takes_less(read_alone, 2 * 1024) && big_answer == SUDOKU_DONE);
-    CHECK(takes_less(write_one, 2 * 1024) && big_answer == SUDOKU_DONE);
+    other_depths();
 }
 
 /*
@@ -1163,6 +1341,10 @@ int main(void)
     one_of_four();
     one_as_repair();
     one_looks_at();
+    wear_adding();
+    wear_refusals();
+    wear_limits();
+    wear_comparing();
     stack_depths();
     printf("C interface: %d checks, %d failed; repair took %lu bytes of stack, a read of one line %lu\n", checks, failures,
            (unsigned long)repair_depth, (unsigned long)one_depth);

@@ -14,8 +14,8 @@
 //! of one run's rounds or the least and the greatest of several runs' figures.
 //! Each row's bar is judged by the median; one that isn't met is no failure.
 //!
-//! A second table has one line wanted, each of its steps beside a measure of its
-//! own, in the same rounds.
+//! A second table has one line wanted, a third wear reports, each row beside a
+//! measure of its own, in the same rounds.
 
 mod doers;
 mod one;
@@ -23,6 +23,7 @@ mod runs;
 mod stores;
 mod table;
 mod timing;
+mod wear;
 
 use std::env;
 use std::hint::black_box;
@@ -30,7 +31,7 @@ use std::process::ExitCode;
 
 use doers::{ALL, Doer, compare, compare_writing};
 use stores::{Buffers, DATA_BYTES, LINE_BYTES, Store};
-use table::{Bar, Figures, HEAD, HEAD_ONE, Row, figures};
+use table::{Bar, Figures, HEAD, HEAD_ONE, HEAD_WEAR, Row, figures, scaled};
 use timing::{ROUNDS, Range, rounds};
 
 /// The side of the large stores.
@@ -59,26 +60,21 @@ const REPAIRS: [(&str, u32, u64, &[Bar]); 4] = [
 
 /// The rows of the first table, in the order in which a run gives their rounds.
 fn rows() -> Vec<Row> {
-    let row = |name: &str, unit, bars| Row {
-        name: name.to_string(),
-        unit,
-        bars,
-    };
     let mut rows = vec![
-        row("write a line", Some("ns"), &[Bar::Peer(1.05)]),
-        row("read a line", Some("ns"), &[Bar::Peer(1.05)]),
-        row("tables", Some("ms"), &[Bar::Peer(0.85)]),
+        Row::new("write a line", Some("ns"), &[Bar::Peer(1.05)]),
+        Row::new("read a line", Some("ns"), &[Bar::Peer(1.05)]),
+        Row::new("tables", Some("ms"), &[Bar::Peer(0.85)]),
     ];
     for (name, answer, passes, bars) in REPAIRS {
         let name = format!("repair, {name}, answer {answer}, passes {passes}");
-        rows.push(row(&name, Some("ms"), bars));
+        rows.push(Row::new(&name, Some("ms"), bars));
     }
     for side in SIDES {
         let name = format!("repair, clean, {side} by {side}, each line");
-        rows.push(row(&name, Some("ns"), &[]));
+        rows.push(Row::new(&name, Some("ns"), &[]));
     }
     let growth = "growth of these, largest / smallest";
-    rows.push(row(growth, None, &[Bar::Itself(GROWTH)]));
+    rows.push(Row::new(growth, None, &[Bar::Itself(GROWTH)]));
     rows
 }
 
@@ -93,16 +89,12 @@ fn single(from: &[u8], width: usize, work: impl Fn(Doer, &[u8], &mut [u8])) -> V
             black_box(&to);
         }
     });
-    let each = |times: [f64; 3]| figures(&times.map(|time| time / (TURNS * FEW) as f64));
-    times.into_iter().map(each).collect()
+    scaled(times, (TURNS * FEW) as f64)
 }
 
 /// A whole store at once: milliseconds.
 fn whole(work: impl FnMut(Doer)) -> Vec<Figures> {
-    let times = rounds(ALL, work).into_iter();
-    times
-        .map(|times| figures(&times.map(|time| time / 1e6)))
-        .collect()
+    scaled(rounds(ALL, work), 1e6)
 }
 
 /// Repair of clean stores of several sides: nanoseconds for a line of each, and
@@ -133,7 +125,7 @@ fn growth(stores: &[Store; SIDES.len()]) -> [Vec<Figures>; SIDES.len() + 1] {
     rows
 }
 
-/// One run: for each row of both tables its figures in every round.
+/// One run: for each row of all tables its figures in every round.
 fn run() -> Vec<Vec<Figures>> {
     let data = stores::data(SIDE * SIDE);
     let clean_stores = SIDES.map(Store::new);
@@ -172,15 +164,26 @@ fn run() -> Vec<Vec<Figures>> {
     }));
     given.extend(growth(&clean_stores));
     given.extend(one::run(clean));
+    given.extend(wear::run(clean, &hurt[1]));
     given
 }
 
-/// Prints both tables.
+/// The tables: the head of each, its rows, and how many figures a row has. Those
+/// of the first are three times and two ratios, of the others two and one.
+fn tables() -> [(&'static str, Vec<Row>, usize); 3] {
+    [
+        (HEAD, rows(), 5),
+        (HEAD_ONE, one::rows(), 3),
+        (HEAD_WEAR, wear::rows(), 3),
+    ]
+}
+
+/// Prints all tables.
 fn print(given: &[Vec<Figures>], range: Range) {
-    let (first, second) = given.split_at(rows().len());
-    for (head, rows, given) in [(HEAD, rows(), first), (HEAD_ONE, one::rows(), second)] {
+    let mut given = given.iter();
+    for (head, rows, _) in tables() {
         println!("{head}");
-        for (row, of) in rows.iter().zip(given) {
+        for (row, of) in rows.iter().zip(&mut given) {
             println!("{}", row.line(of, range));
         }
         println!();
@@ -189,8 +192,8 @@ fn print(given: &[Vec<Figures>], range: Range) {
 
 /// Several runs, and the tables over them.
 fn several(count: usize) -> ExitCode {
-    // Three times and two ratios in the first table, two and one in the second.
-    let widths = [vec![5; rows().len()], vec![3; one::rows().len()]].concat();
+    let of_table = |(_, rows, width): (_, Vec<Row>, _)| vec![width; rows.len()];
+    let widths: Vec<usize> = tables().into_iter().flat_map(of_table).collect();
     match runs::several(count, &widths) {
         Ok(given) => {
             println!(

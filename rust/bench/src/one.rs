@@ -6,8 +6,8 @@ use std::hint::black_box;
 
 use crate::doers::{Doer, compare_one, read_one};
 use crate::stores::{Buffers, LINE_BYTES, Store};
-use crate::table::{Bar, Figures, Row, figures};
-use crate::timing::rounds;
+use crate::table::{Bar, Figures, Row, scaled};
+use crate::timing::{BOTH, Timed, rounds};
 use crate::{SIDE, TURNS};
 
 /// The line that is wanted of the large store, and another of its row.
@@ -22,11 +22,7 @@ const READS: usize = 1000;
 
 /// The rows of the table, in the order in which `run` gives their rounds.
 pub fn rows() -> Vec<Row> {
-    let row = |name: &str, unit, bars| Row {
-        name: name.to_string(),
-        unit: Some(unit),
-        bars,
-    };
+    let row = |name, unit, bars| Row::new(name, Some(unit), bars);
     vec![
         row(
             "step 1, 512 by 512, beside clearing",
@@ -51,16 +47,6 @@ pub fn rows() -> Vec<Row> {
     ]
 }
 
-/// What is timed in a round.
-#[derive(Clone, Copy)]
-enum Timed {
-    Library,
-    Measure,
-}
-
-/// Both, in the order of the table.
-const BOTH: [Timed; 2] = [Timed::Library, Timed::Measure];
-
 /// For each row its figures in every round.
 pub fn run(clean: &Store) -> Vec<Vec<Figures>> {
     // The row rebuilds one hurt line; of two that are hurt alike its mismatch is
@@ -76,12 +62,6 @@ pub fn run(clean: &Store) -> Vec<Vec<Figures>> {
         scaled(large(&by_columns, 3, 1, &mut work), 1e6),
         scaled(smallest(), (TURNS * READS) as f64),
     ]
-}
-
-/// The figures of these rounds, each time through so much.
-fn scaled(times: Vec<[f64; 2]>, by: f64) -> Vec<Figures> {
-    let scaled = |times: [f64; 2]| figures(&times.map(|time| time / by));
-    times.into_iter().map(scaled).collect()
 }
 
 /// The line wanted of a large store, which takes this step, so many times.

@@ -14,6 +14,11 @@ pub const HEAD_ONE: &str = "\
 | one line | library | measure | library / measure | bar | met |
 |---|---|---|---|---|---|";
 
+/// The head of the table of wear reports, each row beside its own measure.
+pub const HEAD_WEAR: &str = "\
+| wear | library | measure | library / measure | bar | met |
+|---|---|---|---|---|---|";
+
 /// What one round or one run says of a row: the library's time and those that
 /// it stands beside, then the library's through each of these.
 pub type Figures = Vec<f64>;
@@ -23,6 +28,12 @@ pub fn figures(times: &[f64]) -> Figures {
     let (library, beside) = (times[0], &times[1..]);
     let ratios = beside.iter().map(|time| library / time);
     times.iter().copied().chain(ratios).collect()
+}
+
+/// The figures of these rounds, each time through so much.
+pub fn scaled<const N: usize>(times: Vec<[f64; N]>, by: f64) -> Vec<Figures> {
+    let scaled = |times: [f64; N]| figures(&times.map(|time| time / by));
+    times.into_iter().map(scaled).collect()
 }
 
 /// The medians of the figures of several rounds, of which there is at least
@@ -99,6 +110,15 @@ pub struct Row {
 }
 
 impl Row {
+    /// The row of this name.
+    pub fn new(name: &str, unit: Option<&'static str>, bars: &'static [Bar]) -> Row {
+        Row {
+            name: name.to_string(),
+            unit,
+            bars,
+        }
+    }
+
     /// The row in Markdown, with the figures of several rounds or runs.
     pub fn line(&self, of: &[Figures], range: Range) -> String {
         let cell = |i, digits, unit: &str| {
@@ -106,9 +126,15 @@ impl Row {
             format!("{median:.digits$}{unit} ({low:.digits$} to {high:.digits$})")
         };
         let mut cells = vec![self.name.clone()];
-        // Of the first of those beside it the ratio has one digit more.
+        // Of the first of those beside it the ratio has one digit more, and more
+        // still if it is small.
         let beside = of[0].len() / 2;
-        let ratios = (1..=beside).map(|i| cell(beside + i, if i == 1 { 2 } else { 1 }, ""));
+        let digits = |i| match i {
+            1 if spread(of, beside + i, range).median < 0.1 => 4,
+            1 => 2,
+            _ => 1,
+        };
+        let ratios = (1..=beside).map(|i| cell(beside + i, digits(i), ""));
         match self.unit {
             Some(unit) => {
                 let unit = format!(" {unit}");
@@ -136,11 +162,7 @@ mod tests {
     const TABLES: [Bar; 2] = [Bar::Peer(0.85), Bar::Copies(6.0)];
 
     fn row() -> Row {
-        Row {
-            name: "tables".to_string(),
-            unit: Some("ms"),
-            bars: &TABLES,
-        }
+        Row::new("tables", Some("ms"), &TABLES)
     }
 
     /// The figures of these rounds.
@@ -172,11 +194,7 @@ mod tests {
              | 0.80 (0.70 to 0.90) | 4.5 (4.0 to 7.0) | 0.85 of the peer, 6 copies \
              | yes (2 of 3), yes (2 of 3) |"
         );
-        let growth = Row {
-            name: "growth".to_string(),
-            unit: None,
-            bars: &[Bar::Itself(1.3)],
-        };
+        let growth = Row::new("growth", None, &[Bar::Itself(1.3)]);
         assert_eq!(
             growth.line(&all([[1.15, 1.2, 4.0]]), Range::Quartiles),
             "| growth | 1.15 (1.15 to 1.15) | 1.20 (1.20 to 1.20) | 4.00 (4.00 to 4.00) \
@@ -186,15 +204,21 @@ mod tests {
 
     #[test]
     fn a_row_beside_its_measure() {
-        let one = Row {
-            name: "alone".to_string(),
-            unit: Some("ns"),
-            bars: &[Bar::Measure(1.2)],
-        };
+        let one = Row::new("alone", Some("ns"), &[Bar::Measure(1.2)]);
         assert_eq!(
             one.line(&all([[5.0, 4.0], [9.0, 8.0]]), Range::Whole),
             "| alone | 7.0 ns (5.0 to 9.0) | 6.0 ns (4.0 to 8.0) | 1.19 (1.12 to 1.25) \
              | 1.20 of the measure | yes (1 of 2) |"
+        );
+    }
+
+    #[test]
+    fn a_small_ratio_has_more_digits() {
+        let small = Row::new("addition", Some("µs"), &[Bar::Measure(0.05)]);
+        assert_eq!(
+            small.line(&all([[20.0, 10000.0], [32.0, 8000.0]]), Range::Whole),
+            "| addition | 26.0 µs (20.0 to 32.0) | 9000.0 µs (8000.0 to 10000.0) \
+             | 0.0030 (0.0020 to 0.0040) | 0.05 of the measure | yes (2 of 2) |"
         );
     }
 }

@@ -10,6 +10,18 @@ pub const ROUNDS: usize = 51;
 const FEWEST: usize = 11;
 const LONG: Duration = Duration::from_secs(10);
 
+/// What is timed in a round where a row has a measure of its own.
+#[derive(Clone, Copy)]
+pub enum Timed {
+    /// The library.
+    Library,
+    /// What it is held against.
+    Measure,
+}
+
+/// Both, in the order of the table.
+pub const BOTH: [Timed; 2] = [Timed::Library, Timed::Measure];
+
 /// The time of each thing in each round, in nanoseconds. Each round does them
 /// all, one after another, after one round that isn't counted.
 pub fn rounds<T: Copy, const N: usize>(things: [T; N], mut work: impl FnMut(T)) -> Vec<[f64; N]> {

@@ -1,16 +1,18 @@
 //! The caption store's line code and repair, as fast as safe Rust for any
 //! x86-64 makes them: the measure that the proved library is held against.
 //!
-//! The rules are document 01's, with requests of document 02. A line
-//! is nine 64-bit words: eight of data, and one with the CRC in bits 0 to 30 and
-//! the Hamming bits from bit 32. The CRC goes by tables, sixteen bytes at a
-//! time; the Hamming bits by moving places to their positions, a word at a
-//! time, and folding. Repair reads every parity line and every line once, keeps
-//! for each group what its lines lack of its parity line, and from then on looks
-//! only at groups in which something changed.
+//! The rules are document 01's, with requests of document 02, and of
+//! Q-5 what the library is measured by: a count of marks, and a comparison of two
+//! wear reports. A line is nine 64-bit words: eight of data, and one with the CRC
+//! in bits 0 to 30 and the Hamming bits from bit 32. The CRC goes by tables,
+//! sixteen bytes at a time; the Hamming bits by moving places to their positions,
+//! a word at a time, and folding. Repair reads every parity line and every line
+//! once, keeps for each group what its lines lack of its parity line, and from
+//! then on looks only at groups in which something changed.
 
 mod code;
 mod rectangle;
+pub mod wear;
 
 use code::Words;
 
@@ -25,6 +27,7 @@ mod answer {
     pub const LINES: u32 = 5;
     pub const TABLE: u32 = 6;
     pub const BUFFER: u32 = 7;
+    pub const WEAR: u32 = 15;
     pub const FAULTY: u32 = 10;
     pub const LEFT: u32 = 11;
     pub const DIFFERS: u32 = 12;

@@ -5,6 +5,8 @@
 //! at shared places, in chains that open one line at a time, as correct lines
 //! that aren't the ones written.
 
+pub mod wear;
+
 use crate::line::{self, SPARE};
 use crate::random::Random;
 use crate::{

@@ -1,5 +1,5 @@
 //! A second implementation of the caption store, written from its rules alone:
-//! document 01, with requests of document 02.
+//! document 01, with requests of document 02.
 //!
 //! It is made to be read beside that document, not to be fast: a line is a
 //! row of 553 truth values, a check is a long division, and repair follows
@@ -14,14 +14,15 @@
 //! | "The rectangle" | [`rectangle`] |
 //! | "Repair", as Q-3 changes it | [`repair`](mod@repair) |
 //! | Request Q-4, one line wanted | [`lookup`] |
+//! | Request Q-5, wear of a whole tour | [`wear`] |
 //! | "Store file" | [`file`](mod@file) |
 //! | "Turned back, in checking order", as change it | [`answer`] |
 //! | The marks, as Q-1 changes them | [`mark`] |
 //!
-//! [`random`] and [`draw`] make inputs for tests: stores, damage and files,
-//! each the same again for the same seed.
+//! [`random`] and [`draw`] make inputs for tests: stores, damage, files and wear
+//! reports, each the same again for the same seed.
 //!
-//! The entry points take byte slices of any length and never panic on them.
+//! The entry points take slices of any length and never panic on them.
 //! What they write goes into the buffers lent to them; after a refusal, which
 //! is any answer but 0, 11 and 12, these hold what they held before, but for
 //! [`read_line`]'s 10.
@@ -56,6 +57,7 @@ pub mod polynomial;
 pub mod random;
 pub mod rectangle;
 pub mod repair;
+pub mod wear;
 
 pub use file::{StoreFile, check_file, storecheck};
 pub use line::{ReadLine, read_line, write_line};
@@ -93,7 +95,8 @@ pub const GREATEST_SIDE: usize = 512;
 /// The greatest number of rows or columns that the program takes.
 pub const PROGRAM_SIDE: usize = 16;
 
-/// The answers, by document 01's numbers and request Q-2's; in checking order.
+/// The answers, by document 01's numbers and those of requests; in
+/// checking order.
 pub mod answer {
     /// Success.
     pub const DONE: u32 = 0;
@@ -113,6 +116,9 @@ pub mod answer {
     pub const BUFFER: u32 = 7;
     /// The line number isn't below rows times columns.
     pub const NUMBER: u32 = 8;
+    /// A wear report doesn't add up or has too much; in an addition also: it is
+    /// full, or what is added is no repair result.
+    pub const WEAR: u32 = 15;
     /// In a change: the row's parity line, spare bits apart, isn't correct.
     pub const ROW_PARITY: u32 = 13;
     /// In a change: the column's parity line, spare bits apart, isn't correct.
@@ -154,4 +160,14 @@ pub mod step {
     pub const ROW: u32 = 2;
     /// The whole rectangle was repaired.
     pub const REPAIR: u32 = 3;
+}
+
+/// How the first of two reports' shares stands to the second.
+pub mod order {
+    /// They are equal.
+    pub const EQUAL: u32 = 0;
+    /// The first is smaller.
+    pub const SMALLER: u32 = 1;
+    /// The first is greater.
+    pub const GREATER: u32 = 2;
 }

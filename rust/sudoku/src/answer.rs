@@ -30,6 +30,9 @@ pub enum Answer {
     Buffer,
     /// 8: the line number isn't below rows × columns.
     Number,
+    /// 15: ten numbers are no wear report, the report has its million stores
+    /// already, or what is added isn't the result of a repair.
+    Wear,
     /// 13: in a change, the parity line of the line's row isn't a correct line;
     /// that of its column may be bad too. The store has to be repaired, or the
     /// row table loaded anew.
@@ -81,6 +84,7 @@ impl Answer {
             6 => Answer::Table,
             7 => Answer::Buffer,
             8 => Answer::Number,
+            15 => Answer::Wear,
             13 => Answer::RowParity { row: index },
             14 => Answer::ColumnParity { column: index },
             10 => Answer::Faulty,
@@ -102,6 +106,7 @@ impl Answer {
             Answer::Table => 6,
             Answer::Buffer => 7,
             Answer::Number => 8,
+            Answer::Wear => 15,
             Answer::RowParity { .. } => 13,
             Answer::ColumnParity { .. } => 14,
             Answer::Faulty => 10,
@@ -136,6 +141,9 @@ impl fmt::Display for Answer {
             Answer::Table => "a table has another length",
             Answer::Buffer => "a buffer or the data have another length",
             Answer::Number => "there is no line of this number",
+            Answer::Wear => {
+                "the numbers are no wear report, the report is full, or this is no result of a repair"
+            }
             Answer::RowParity { row } => {
                 return write!(
                     f,
@@ -180,6 +188,15 @@ pub enum Mark {
 }
 
 impl Mark {
+    /// The five marks, in the order of their numbers.
+    pub const ALL: [Mark; 5] = [
+        Mark::Clean,
+        Mark::Rewritten,
+        Mark::Trial,
+        Mark::Rebuilt,
+        Mark::Faulty,
+    ];
+
     /// The mark with this number.
     ///
     /// ```
@@ -209,6 +226,28 @@ impl Mark {
             Mark::Faulty => 4,
             Mark::Other(number) => number,
         }
+    }
+}
+
+/// The word that a report has for it: `storecheck`'s, and a [`Wear`]'s.
+///
+/// ```
+/// let words = sudoku::Mark::ALL.map(|mark| mark.to_string());
+/// assert_eq!(words, ["clean", "alone", "trial", "rebuilt", "faulty"]);
+/// ```
+///
+/// [`Wear`]: crate::Wear
+impl fmt::Display for Mark {
+    fn fmt(&self, f: &mut fmt::Formatter<'_>) -> fmt::Result {
+        let word = match self {
+            Mark::Clean => "clean",
+            Mark::Rewritten => "alone",
+            Mark::Trial => "trial",
+            Mark::Rebuilt => "rebuilt",
+            Mark::Faulty => "faulty",
+            Mark::Other(number) => return write!(f, "unknown mark {number}"),
+        };
+        f.pad(word)
     }
 }
 

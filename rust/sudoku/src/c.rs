@@ -83,6 +83,20 @@ mod declared {
             mark: *mut u8,
             step: *mut u32,
         ) -> u32;
+        pub fn sudoku_wear_add(
+            wear: *mut u64,
+            wear_len: usize,
+            marks: *const u8,
+            marks_len: usize,
+            answer: u32,
+        ) -> u32;
+        pub fn sudoku_wear_compare(
+            a: *const u64,
+            a_len: usize,
+            b: *const u64,
+            b_len: usize,
+            order: *mut u32,
+        ) -> u32;
     }
 }
 
@@ -259,4 +273,30 @@ pub fn read_one(
         )
     };
     (answer, mark, step)
+}
+
+/// Takes the marks and the answer of one repair into a report of ten numbers;
+/// gives the answer. A refusal leaves the numbers as they were.
+pub fn wear_add(wear: &mut [u64], marks: &[u8], answer: u32) -> u32 {
+    // SAFETY: see above.
+    unsafe {
+        declared::sudoku_wear_add(
+            wear.as_mut_ptr(),
+            wear.len(),
+            marks.as_ptr(),
+            marks.len(),
+            answer,
+        )
+    }
+}
+
+/// Compares the shares of rebuilt lines of two reports of ten numbers; gives the
+/// answer and the order: 0 equal, 1 the first is smaller, 2 greater.
+pub fn wear_compare(a: &[u64], b: &[u64]) -> (u32, u32) {
+    let mut order = u32::MAX;
+    // SAFETY: see above.
+    let answer = unsafe {
+        declared::sudoku_wear_compare(a.as_ptr(), a.len(), b.as_ptr(), b.len(), &mut order)
+    };
+    (answer, order)
 }

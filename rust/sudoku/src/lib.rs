@@ -5,9 +5,10 @@
 //! [`Store`] holds rows × columns of such lines and a parity line for each row
 //! and column, and [`Store::repair`] mends damaged lines from these, and the
 //! parity lines from the lines. [`Store::read_one`] gives one line as repair
-//! would, mostly without repairing the rest. The work is done by the static
-//! library `libcapi.a`, whose functions are proved to follow the store's rules;
-//! this crate is a safe way to call it.
+//! would, mostly without repairing the rest. A [`Wear`] report adds up what the
+//! repairs of many stores found. The work is done by the static library
+//! `libcapi.a`, whose functions are proved to follow the store's rules; this
+//! crate is a safe way to call it.
 //!
 //! Nothing here panics on bad input: what is refused comes back as an
 //! [`Answer`]. Calls keep no state, so threads may call at once; repair and a
@@ -15,7 +16,7 @@
 //! about 110 kB.
 //!
 //! ```
-//! use sudoku::{Mark, Store};
+//! use sudoku::{Mark, Store, Wear};
 //!
 //! // Four captions in two rows and two columns.
 //! let captions = [[b'a'; 64], [b'b'; 64], [b'c'; 64], [b'd'; 64]];
@@ -32,6 +33,11 @@
 //!
 //! // Where only this caption is wanted, a read of one line gives it.
 //! assert_eq!(store.read_one(3)?.whole()?, captions[3]);
+//!
+//! // One of four lines was rebuilt.
+//! let mut wear = Wear::new();
+//! wear.add(&repaired)?;
+//! assert_eq!(wear.rebuilt_share().to_string(), "25.00 %");
 //! # Ok::<(), sudoku::Answer>(())
 //! ```
 //!
@@ -56,7 +62,10 @@
 //!   line stays faulty; or the table has to be loaded anew
 //!   ([`Store::row_table_mut`], [`Store::column_table_mut`]). After the first
 //!   the column's may be bad too, since the row is answered for first.
-//! - A refused call leaves the store as it was.
+//! - A [`Wear`] report counts every result that it is handed, the same one again
+//!   too. Shares of rebuilt lines are compared exactly ([`Wear::rebuilt_share`]);
+//!   in percent, two that differ may look alike.
+//! - A refused call leaves the store, or the report, as it was.
 //!
 //! # Linking
 //!
@@ -68,10 +77,12 @@ mod answer;
 pub mod c;
 mod line;
 mod store;
+mod wear;
 
 pub use answer::{Answer, Mark, Step};
 pub use line::{Read, read_line, write_line};
 pub use store::{One, Repaired, Store};
+pub use wear::{Percent, Share, TextError, Wear};
 
 /// Data bytes of one line.
 pub const DATA_BYTES: usize = 64;

@@ -1,55 +1,66 @@
-//! Buffers with guard bytes on both sides.
+//! Buffers with guards on both sides.
 
 use crate::watched;
 
-/// Guard bytes on each side.
+/// Guards on each side.
 const WIDTH: usize = 96;
 
-/// What guard bytes hold.
-const FILLING: u8 = 0xB7;
+/// What a buffer may consist of: bytes, or the numbers of a wear report.
+pub trait Item: Copy + PartialEq {
+    /// What guards hold.
+    const FILLING: Self;
+}
 
-/// A buffer between guard bytes.
-pub struct Guarded {
-    bytes: Box<[u8]>,
+impl Item for u8 {
+    const FILLING: u8 = 0xB7;
+}
+
+impl Item for u64 {
+    const FILLING: u64 = 0xB7B7_B7B7_B7B7_B7B7;
+}
+
+/// A buffer between guards.
+pub struct Guarded<T = u8> {
+    items: Box<[T]>,
     start: usize,
     length: usize,
 }
 
-impl Guarded {
+impl<T: Item> Guarded<T> {
     /// A buffer with this content. `shift` moves its start, so that it lies at
-    /// any alignment.
-    pub fn new(content: &[u8], shift: usize) -> Guarded {
+    /// any alignment that its items may have.
+    pub fn new(content: &[T], shift: usize) -> Guarded<T> {
         if watched() {
             return Guarded {
-                bytes: content.into(),
+                items: content.into(),
                 start: 0,
                 length: content.len(),
             };
         }
         let start = WIDTH + shift % 16;
-        let mut bytes = vec![FILLING; start + content.len() + WIDTH];
-        bytes[start..start + content.len()].copy_from_slice(content);
+        let mut items = vec![T::FILLING; start + content.len() + WIDTH];
+        items[start..start + content.len()].copy_from_slice(content);
         Guarded {
-            bytes: bytes.into(),
+            items: items.into(),
             start,
             length: content.len(),
         }
     }
 
     /// The content.
-    pub fn content(&self) -> &[u8] {
-        &self.bytes[self.start..self.start + self.length]
+    pub fn content(&self) -> &[T] {
+        &self.items[self.start..self.start + self.length]
     }
 
     /// The content, to be written.
-    pub fn content_mut(&mut self) -> &mut [u8] {
-        &mut self.bytes[self.start..self.start + self.length]
+    pub fn content_mut(&mut self) -> &mut [T] {
+        &mut self.items[self.start..self.start + self.length]
     }
 
-    /// Whether all guard bytes are as they were.
+    /// Whether all guards are as they were.
     pub fn intact(&self) -> bool {
-        let (before, rest) = self.bytes.split_at(self.start);
+        let (before, rest) = self.items.split_at(self.start);
         let after = &rest[self.length..];
-        before.iter().chain(after).all(|&byte| byte == FILLING)
+        before.iter().chain(after).all(|&item| item == T::FILLING)
     }
 }

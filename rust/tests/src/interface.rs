@@ -2,7 +2,7 @@
 
 use sudoku::c::Out;
 
-/// The six entry points over slices; each gives its answer first.
+/// The eight entry points over slices; each gives its answer first.
 pub trait Interface {
     /// What failures are told by.
     fn name(&self) -> &'static str;
@@ -60,6 +60,12 @@ pub trait Interface {
         work: Out,
         line: &mut [u8],
     ) -> (u32, u8, u32);
+
+    /// Takes a repair result into a wear report.
+    fn wear_add(&self, wear: &mut [u64], marks: &[u8], answer: u32) -> u32;
+
+    /// Compares the shares of two wear reports; gives their order too.
+    fn wear_compare(&self, a: &[u64], b: &[u64]) -> (u32, u32);
 }
 
 /// Both implementations, for tests that each has to pass.
@@ -131,6 +137,14 @@ impl Interface for Library {
         line: &mut [u8],
     ) -> (u32, u8, u32) {
         sudoku::c::read_one(rows, columns, lines, row_table, column_table, n, work, line)
+    }
+
+    fn wear_add(&self, wear: &mut [u64], marks: &[u8], answer: u32) -> u32 {
+        sudoku::c::wear_add(wear, marks, answer)
+    }
+
+    fn wear_compare(&self, a: &[u64], b: &[u64]) -> (u32, u32) {
+        sudoku::c::wear_compare(a, b)
     }
 }
 
@@ -204,6 +218,14 @@ impl Interface for Reference {
         let given =
             reference::read_one(rows, columns, lines, row_table, column_table, n, work, line);
         (given.answer, given.mark, given.step)
+    }
+
+    fn wear_add(&self, wear: &mut [u64], marks: &[u8], answer: u32) -> u32 {
+        reference::wear::add(wear, marks, answer)
+    }
+
+    fn wear_compare(&self, a: &[u64], b: &[u64]) -> (u32, u32) {
+        reference::wear::compare(a, b)
     }
 }
 

@@ -1,9 +1,10 @@
 //! What the tests of the library share: both implementations behind one
-//! interface, buffers with guard bytes, and the comparison of one call.
+//! interface, buffers with guards, and the comparison of one call.
 
 mod compare;
 mod guard;
 mod interface;
+pub mod wear;
 
 pub use compare::{Entry, Numbers, compare};
 pub use guard::Guarded;

@@ -24,7 +24,7 @@ fn numbers_and_names_of_answers_marks_and_steps() {
         let answer = Answer::from_numbers(number, 5);
         assert_eq!(answer.number(), number);
         // No answer is 9.
-        let unknown = number == 9 || number > 14;
+        let unknown = number == 9 || number > 15;
         assert_eq!(unknown, answer == Answer::Other(number));
     }
     assert_eq!(Answer::from_numbers(13, 5), Answer::RowParity { row: 5 });
@@ -32,13 +32,20 @@ fn numbers_and_names_of_answers_marks_and_steps() {
         Answer::from_numbers(14, 511),
         Answer::ColumnParity { column: 511 }
     );
+    assert_eq!(Answer::from_numbers(15, 5), Answer::Wear);
     for number in 0..=255 {
         assert_eq!(Mark::from_number(number).number(), number);
     }
-    assert_eq!(
-        [0, 1].map(Mark::from_number),
-        [Mark::Clean, Mark::Rewritten]
-    );
+    let marks = [
+        Mark::Clean,
+        Mark::Rewritten,
+        Mark::Trial,
+        Mark::Rebuilt,
+        Mark::Faulty,
+    ];
+    assert_eq!([0, 1, 2, 3, 4].map(Mark::from_number), marks);
+    assert_eq!(Mark::ALL, marks);
+    assert_eq!(Mark::Other(9).to_string(), "unknown mark 9");
     for number in 0..5 {
         assert_eq!(Step::from_number(number).number(), number);
     }

@@ -1,5 +1,5 @@
 //! The library against document 01's samples, against the words of requests Q-1
-//! to Q-4 and against the second implementation. All tests are one binary, so
+//! to Q-5 and against the second implementation. All tests are one binary, so
 //! that it can be run once more under a memory checker.
 //!
 //! `SUDOKU_PERCENT` sets how many cases are drawn, in percent of the usual
@@ -14,3 +14,6 @@ mod marks;
 mod parity;
 mod samples;
 mod storecheck;
+mod tours;
+mod wear;
+mod wear_type;
