@@ -8,16 +8,10 @@ use native.Mathlib.Omega.{arith}
 use borrow.Author.Tests.{not-true}
 use lib.Dec.{eqb}
 use lib.ListN.{length, getD}
-use Rattle.scheme.specs.Layer.{readLine}
-use Rattle.scheme.specs.Repair.{repair, marksOf}
-use Rattle.scheme.specs.Marks.{LineMarks}
 use Rattle.scheme.specs.Demand3.{_∈_}
-use Rattle.scheme.proofs.Marking.{repair-marks}
-use Rattle.rectangle.specs.Store.{lineLayer, linesIn}
+use Rattle.rectangle.specs.Store.{lineLayer}
 use Rattle.rectangle.specs.Refusals.{repairRefusal, repairAnswers}
-use Rattle.rectangle.specs.Repair.{Buffers, StoreRepaired, usedGroups, repairedBy, repaired, handsOver, handedOver, repairStore}
-use Rattle.rectangle.proofs.Buffer.{length-linesIn}
-use Rattle.rectangle.proofs.LineLayer.{kept}
+use Rattle.rectangle.specs.Repair.{Buffers, StoreRepaired, usedGroups, repaired, handsOver, handedOver, repairStore}
 use Rattle.rectangle.proofs.Runs.{zero-or-not, answer-hands-over, refusal-hands-nothing, repair-runs, repair-refused, repair-answers}
 use Rattle.rectangle.proofs.Tests.{every-at, not-among, either-way}
 use Rattle.storefile.specs.Opening.{rowsIn, columnsIn, openRefusal, opened}
@@ -31,6 +25,7 @@ use Rattle.storefile.proofs.Answers.{openAnswers, opening-answers}
 use Rattle.storefile.proofs.Openings.{Outcome, accepted, refused, outcome}
 use Rattle.report.proofs.Checking.{check-refused, check-turned-back, check-counted}
 use Rattle.results.proofs.Adding.{counts-add-up}
+use Rattle.results.proofs.Repairing.{marks-handed}
 
 -- ---- which answers hand over
 opening-refuses : (n : ℕ) → n ∈ openAnswers → (n ≡ 0 → ⊥) → handsOver n ≡ false
@@ -53,14 +48,11 @@ module _ (rows columns : ℕ) (lines rowTable columnTable : List ℕ) (b : Buffe
 
   handed : Repairing (rows * columns) b
       (handedOver lineLayer rows columns rowTable columnTable (repaired rows columns lines rowTable columnTable))
-  unfolding handedOver repairedBy
+  unfolding handedOver
   handed =
-      let gs = usedGroups lineLayer rows columns rowTable columnTable in
-      let found = linesIn (rows * columns) lines in
-      let given : LineMarks (length found) (marksOf (repair (readLine lineLayer) gs found .cells)) = repair-marks lineLayer kept gs found in
-      over (answer-hands-over gs (repair (readLine lineLayer) gs found .cells))
-      (given .each ∙ length-linesIn (rows * columns) lines)
-      (given .high)
+      let r = repaired rows columns lines rowTable columnTable in
+      let given = marks-handed rows columns lines rowTable columnTable in
+      over (answer-hands-over (usedGroups lineLayer rows columns rowTable columnTable) (r .cells)) (given .each) (given .high)
 
   repairing : Repairing (rows * columns) b result
   repairing = go (zero-or-not refusal)

@@ -1,23 +1,16 @@
 -- What repair hands over is a result that a report takes in, and what it refuses is none.
-use mathlib.Core.Path.{_≡_, refl, sym, ap, _∙_}
-use mathlib.Core.Bool.{Bool, true, false, _&&_, and-false}
-use Prim.Native.Nat.{ℕ, _*_, _≤_}
+use mathlib.Core.Path.{_≡_, refl}
+use mathlib.Core.Bool.{Bool, true, false, and-false}
+use Prim.Native.Nat.{_*_, _≤_}
 use native.Mathlib.Nat.{mul-le-mul}
 use native.Mathlib.Omega.{arith}
-use lib.Dec.{leb}
-use lib.ListN.{length}
-use Rattle.scheme.specs.Layer.{readLine}
 use Rattle.scheme.specs.Marks.{LineMarks}
-use Rattle.scheme.proofs.Marking.{repair-marks}
-use Rattle.rectangle.specs.Store.{lineLayer, linesIn}
-use Rattle.rectangle.specs.Refusals.{every}
-use Rattle.rectangle.specs.Repair.{Buffers, repairedBy, handsOver, handedOver}
+use Rattle.rectangle.specs.Repair.{Buffers, handsOver}
 use Rattle.rectangle.proofs.Area.{area}
-use Rattle.rectangle.proofs.Buffer.{length-linesIn}
 use Rattle.rectangle.proofs.Groups.{Sides, sides}
-use Rattle.rectangle.proofs.LineLayer.{kept}
-use Rattle.demands.specs.Demands.{Rectangle, count, repairOf, groupsOf, stepsOn}
+use Rattle.demands.specs.Demands.{Rectangle, count, repairOf}
 use Rattle.demands.proofs.Refused.{handed, sizes}
+use Rattle.results.proofs.Repairing.{marks-handed}
 use Rattle.tour.specs.Wear.{Result}
 use Rattle.tour.specs.Adding.{isResult}
 use Rattle.tour.specs.Promises.{resultOf, RepairGivesResult}
@@ -25,11 +18,7 @@ use Rattle.tour.proofs.Refused.{hands-over, result-is}
 
 module _ (r : Rectangle) (work : Buffers) where
   marks-given : handsOver (repairOf r work .answer) ≡ true → LineMarks (count r) (repairOf r work .marks)
-  unfolding handedOver repairedBy
-  marks-given h =
-      let found = linesIn (count r) (r .lines) in
-      let given = repair-marks lineLayer kept (groupsOf r) found in
-      rw (handed r work h) (record { each = given .each ∙ length-linesIn (count r) (r .lines); high = given .high })
+  marks-given h = rw (handed r work h) (marks-handed (r .rows) (r .columns) (r .lines) (r .rowTable) (r .columnTable))
 
   lines-given : handsOver (repairOf r work .answer) ≡ true → (4 ≤ count r) × (count r ≤ 262144)
   lines-given h =

@@ -29,9 +29,9 @@ pub record CountedFrom (results : List Result) : Type 0 where
 abbrev pub Counted : Type 0
 Counted = (results : List Result) → CountedFrom results
 
--- ---- "Errors: 15, after 8, when a report's marks or answers don't add up to its lines or stores, it has more than 4,194,304 lines for each
--- store or above 1,000,000 stores, or, adding, has that many already or the result isn't 4 to 4,194,304 marks of 0 to 4 with answer 0, 11
--- or 12."
+-- ---- "Errors: 15, after 8, when a report's marks or answers don't add up to its lines or stores, it has more than 4,194,304 lines for
+-- each store or above 1,000,000 stores, or, adding, has that many already or the result isn't 4 to 4,194,304 marks of 0 to 4 with answer
+-- 0, 11 or 12."
 pub record IsReport (w : Declared.Wear) : Type 0 where
   pub stores : w .stores ≤ 1000000
   pub lines : w .lines ≤ 4194304 * w .stores
