@@ -2,7 +2,7 @@
 use mathlib.Core.Path.{_≡_, refl}
 use mathlib.Core.Logic.{inl, inr, _↔_, Iff·trans, Iff·and}
 use mathlib.Core.Bool.{Bool, true, false, cond, _&&_, _||_, false≢true, and-eq-true-iff}
-use mathlib.Core.List.{List, [], _∷_}
+use mathlib.Core.List.{[], _∷_}
 use Prim.Native.Nat.{ℕ, _<_}
 use native.Mathlib.Omega.{arith}
 use borrow.Author.Tests.{leb-true, le-leb, ltb-true, lt-ltb, eqb-true, eq-eqb}
@@ -13,7 +13,7 @@ use Rattle.rectangle.proofs.Tests.{every-at}
 use Rattle.results.proofs.Adding.{all-marks}
 use Rattle.tour.specs.Wear.{Result, wearOf}
 use Rattle.tour.specs.Adding.{mostStores, mostLines, isReport, isResult, hasRoom, plus, addStore}
-use Rattle.tour.specs.Share.{shareOrder, compareShares}
+use Rattle.tour.specs.Share.{compareShares}
 use Rattle.tour.specs.Promises.{IsReport, IsResult, Refused}
 use Rattle.tour.specs.declared.Wear as Declared
 use Rattle.tour.specs.declared.Added.{Added}

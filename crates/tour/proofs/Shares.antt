@@ -1,9 +1,9 @@
 -- Shares compared: the order of two numbers, cross products, and the order of all reports.
 use mathlib.Core.Path.{_≡_, refl, sym, ap, ap₂, _∙_}
-use mathlib.Core.Logic.{_⊎_, inl, inr, _↔_}
+use mathlib.Core.Logic.{_⊎_, inl, inr}
 use mathlib.Core.Bool.{Bool, true, false}
 use Prim.Native.Nat.{ℕ, _*_, _≤_, _<_}
-use native.Mathlib.Nat.{mul-one, zero-mul, mul-assoc, mul-comm, mul-left-comm, mul-right-comm, one-le-mul, mul-lt-mul-of-pos-right}
+use native.Mathlib.Nat.{mul-one, zero-mul, mul-assoc, mul-comm, mul-right-comm, one-le-mul, mul-lt-mul-of-pos-right}
 use native.Mathlib.Omega.{arith}
 use borrow.Author.Tests.{ltb-true, ltb-false, lt-ltb, le-ltb, eqb-true, eqb-false, eq-eqb, ne-eqb}
 use lib.Dec.{eqb, ltb}

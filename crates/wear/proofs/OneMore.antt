@@ -1,9 +1,8 @@
 -- One store more: the numbers fit, and the tests that the code makes are those of the definition.
-use mathlib.Core.Path.{_≡_, refl, sym, ap, _∙_}
-use mathlib.Core.Bool.{Bool, true, false, cond, _&&_, true≢false, and-eq-true-iff}
-use mathlib.Core.List.{List, [], _∷_, append-nil}
+use mathlib.Core.Path.{_≡_, refl, sym, _∙_}
+use mathlib.Core.Bool.{Bool, true, false, _&&_, and-comm, and-eq-true-iff}
+use mathlib.Core.List.{List, [], _∷_}
 use Prim.Native.Nat.{ℕ, _+_, _≤_, _<_}
-use native.Mathlib.Nat.{add-zero}
 use native.Mathlib.Omega.{arith}
 use borrow.Author.Tests.{leb-true}
 use lib.Dec.{eqb, leb}
@@ -13,7 +12,7 @@ use Rattle.rectangle.specs.Repair.{handsOver}
 use Rattle.results.specs.Marks.{countOf, total, countsOf}
 use Rattle.results.proofs.Counting.{count-few}
 use Rattle.results.proofs.Adding.{counts-tell-marks}
-use Rattle.tour.specs.Wear.{Result, answersOf, wearOf}
+use Rattle.tour.specs.Wear.{Result, answersOf}
 use Rattle.tour.specs.Adding.{mostLines, isReport, isResult, hasRoom, plus, addStore}
 use Rattle.tour.specs.declared.Wear as Declared
 use Rattle.tour.proofs.Counted.{one-store}
@@ -22,23 +21,13 @@ use Rattle.tour.proofs.Counted.{one-store}
 pub one-more-fits : (a one found answer : ℕ) → a ≤ 1000000 → one ≡ countOf answer (found ∷ []) → a + one < 18446744073709551616
 one-more-fits a one found answer h e = let most = count-few answer (found ∷ []) in omega (arith, h, e, most)
 
--- five tests in a row, and a sixth before the last
-refused-too : (a b c d f e : Bool) → a && (b && (c && (d && f))) ≡ false → a && (b && (c && (d && (e && f)))) ≡ false
-refused-too false b c d f e p = refl
-refused-too true false c d f e p = refl
-refused-too true true false d f e p = refl
-refused-too true true true false f e p = refl
-refused-too true true true true f false p = refl
-refused-too true true true true f true p = p
-
-only-left : (a b c d f e : Bool) → a && (b && (c && (d && f))) ≡ true → a && (b && (c && (d && (e && f)))) ≡ e
-only-left false b c d f e p = absurd (true≢false (sym p))
-only-left true false c d f e p = absurd (true≢false (sym p))
-only-left true true false d f e p = absurd (true≢false (sym p))
-only-left true true true false f e p = absurd (true≢false (sym p))
-only-left true true true true false e p = absurd (true≢false (sym p))
-only-left true true true true true true p = refl
-only-left true true true true true false p = refl
+-- a test in a row, made last
+made-last : (a b c d e f : Bool) → a && (b && (c && (d && (e && f)))) ≡ (a && (b && (c && (d && f)))) && e
+made-last false b c d e f = refl
+made-last true false c d e f = refl
+made-last true true false d e f = refl
+made-last true true true false e f = refl
+made-last true true true true e f = and-comm e f
 
 module _ (w : Declared.Wear) (marks : List ℕ) (answer : ℕ) where
   abbrev store : Result
@@ -58,9 +47,13 @@ module _ (w : Declared.Wear) (marks : List ℕ) (answer : ℕ) where
   abbrev Takes : Bool
   Takes = isReport w && (hasRoom w && (atLeast && (atMost && handsOver answer)))
 
+  tests : isReport w && (hasRoom w && isResult store) ≡ Takes && allMarks
+  unfolding isResult
+  tests = made-last (isReport w) (hasRoom w) atLeast atMost allMarks (handsOver answer)
+
   pub not-taken : Takes ≡ false → addStore w store ≡ record { answer = 15; wear = w }
-  unfolding addStore isResult
-  not-taken p = rw (refused-too (isReport w) (hasRoom w) atLeast atMost (handsOver answer) allMarks p)
+  unfolding addStore
+  not-taken p = rw (tests, p)
 
   -- what they tell
   pub takes-report : Takes ≡ true → isReport w ≡ true
@@ -77,9 +70,7 @@ module _ (w : Declared.Wear) (marks : List ℕ) (answer : ℕ) where
   -- and where they pass, that of the marks, by their counts
   marks-left : Takes ≡ true
       → isReport w && (hasRoom w && isResult store) ≡ eqb (total (countsOf marks)) (length marks)
-  unfolding isResult
-  marks-left p =
-      only-left (isReport w) (hasRoom w) atLeast atMost (handsOver answer) allMarks p ∙ sym (counts-tell-marks marks)
+  marks-left p = tests ∙ rw p (sym (counts-tell-marks marks))
 
   pub no-marks : Takes ≡ true → eqb (total (countsOf marks)) (length marks) ≡ false
       → addStore w store ≡ record { answer = 15; wear = w }

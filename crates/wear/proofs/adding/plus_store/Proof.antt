@@ -1,9 +1,7 @@
 -- `wear::adding::plus_store` meets its contract.
-use mathlib.Core.Path.{_≡_}
 use native.Mathlib.Omega.{arith}
 use Rattle.tour.specs.Adding.{plus}
 use Rattle.tour.proofs.Refused.{is-report}
-use borrow.Author.Needs.{needs}
 use Rattle.wear.proofs.adding.plus_store.Statement.{statement}
 use Rattle.wear.proofs.adding.plus_store.Tie as tie
 

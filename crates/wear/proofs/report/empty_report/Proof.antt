@@ -1,5 +1,4 @@
 -- `wear::report::empty_report` meets its contract.
-use mathlib.Core.Path.{ap}
 use Rattle.results.specs.Marks.{countOf, countsOf, noCounts}
 use Rattle.tour.specs.Wear.{answersOf, wearOf}
 use borrow.Author.Needs.{needs}

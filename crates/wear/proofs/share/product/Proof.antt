@@ -2,7 +2,6 @@
 use Prim.Native.Nat.{_/_, _%_}
 use native.Mathlib.Omega.{arith}
 use Rattle.wear.proofs.Products.{in-halves, half-fits}
-use borrow.Author.Needs.{needs}
 use Rattle.wear.proofs.share.product.Statement.{statement}
 use Rattle.wear.proofs.share.product.Tie as tie
 
