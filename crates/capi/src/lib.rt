@@ -1,5 +1,5 @@
 // The C interface: the entry points over slices and numbers, for programs in other languages to link.
-// In C a slice is a pointer and a length; the mark, the passes, the number and the step are each returned through a pointer.
+// In C a slice is a pointer and a length; the mark, the passes, the number, the step and the order are each returned through a pointer.
 use linecode::place;
 use single::alone;
 use wear::numbers;

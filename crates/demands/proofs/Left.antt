@@ -1,5 +1,5 @@
 -- Answer 11 and mark 4: each is given exactly where the other is.
-use mathlib.Core.Path.{_≡_, refl, _∙_}
+use mathlib.Core.Path.{_≡_, refl}
 use mathlib.Core.Bool.{Bool, true, false, cond}
 use mathlib.Core.List.{[], _∷_}
 use Prim.Native.Nat.{ℕ, zero, suc, _<_}
@@ -8,11 +8,8 @@ use borrow.Author.Tests.{eqb-true, eqb-false}
 use lib.ListN.{length, getD}
 use Rattle.scheme.specs.Visit.{State, isFaulty, select}
 use Rattle.scheme.specs.Repair.{faultyCount, marksOf}
-use Rattle.scheme.proofs.Marking.{repair-marks}
-use Rattle.rectangle.specs.Store.{lineLayer, linesIn}
-use Rattle.rectangle.specs.Repair.{repairedBy, handedOver}
-use Rattle.rectangle.proofs.Buffer.{length-linesIn}
-use Rattle.rectangle.proofs.LineLayer.{kept}
+use Rattle.rectangle.specs.Repair.{handedOver}
+use Rattle.rectangle.proofs.Runs.{marks-handed}
 use Rattle.demands.specs.Demands.{count, groupsOf, stepsOn, ElevenIsLeft}
 use Rattle.demands.proofs.Refused.{answer-left, answer-none, handed}
 
@@ -37,7 +34,7 @@ none-faulty (c ∷ s) z n e = go (isFaulty c) refl z (none-faulty s) n e
     go false f y later (suc n) m = later y n m
 
 pub elevenIsLeft : ElevenIsLeft
-unfolding handedOver repairedBy
+unfolding handedOver
 elevenIsLeft r b h =
     rw (handed r b h)
     (record {
@@ -46,4 +43,4 @@ elevenIsLeft r b h =
     })
   where
     lines : length (marksOf (stepsOn r .cells)) ≡ count r
-    lines = repair-marks lineLayer kept (groupsOf r) (linesIn (count r) (r .lines)) .each ∙ length-linesIn (count r) (r .lines)
+    lines = marks-handed (r .rows) (r .columns) (r .lines) (r .rowTable) (r .columnTable) .each

@@ -15,13 +15,17 @@ use Rattle.scheme.specs.Layer.{Layer}
 use Rattle.scheme.specs.Visit.{Group, State}
 use Rattle.scheme.specs.Demand3.{_∈_}
 use Rattle.scheme.specs.Repair.{faultyCount, agrees, answer}
-use Rattle.rectangle.specs.Store.{lineLayer, putLine, rowGroup, columnGroup}
+use Rattle.scheme.specs.Marks.{LineMarks}
+use Rattle.scheme.proofs.Marking.{repair-marks}
+use Rattle.rectangle.specs.Store.{lineLayer, linesIn, putLine, rowGroup, columnGroup}
 use Rattle.rectangle.specs.Refusals.{every, sidesFit, holds, tablesFit, parityCorrect, acceptedAt, tablesRefusal, tablesAnswers, changeRefusal, changeAnswers, repairRefusal, repairRefusals, repairAnswers, numberWith}
 use Rattle.rectangle.specs.Tables.{rowTableOf, columnTableOf, makeTables}
 use Rattle.rectangle.specs.Change.{newLine, difference, addTo, changeLine}
-use Rattle.rectangle.specs.Repair.{repairedBy, handsOver, handedOver, repairBy, repairStore}
+use Rattle.rectangle.specs.Repair.{usedGroups, repairedBy, repaired, handsOver, handedOver, repairBy, repairStore}
 use Rattle.rectangle.proofs.Tests.{every-at, refusal-in}
 use Rattle.rectangle.proofs.Members.{in-left, in-right}
+use Rattle.rectangle.proofs.LineLayer.{kept}
+use Rattle.rectangle.proofs.Buffer.{length-linesIn}
 
 -- a refusal is 0 or not
 pub zero-or-not : (n : ℕ) → (n ≡ 0) ⊎ (n ≡ 0 → ⊥)
@@ -42,6 +46,16 @@ answer-own gs s = go (eqb (faultyCount s) 0) (agrees gs s)
 pub answer-hands-over : (gs : List Group) (s : State) → handsOver (answer gs s) ≡ true
 unfolding handsOver
 answer-hands-over gs s = every-at handsOver (0 ∷ 11 ∷ 12 ∷ []) refl (answer gs s) (answer-own gs s)
+
+-- and so a mark for each line, each one of 0 to 4
+pub marks-handed : (rows columns : ℕ) (lines rowTable columnTable : List ℕ)
+    → LineMarks (rows * columns)
+    (handedOver lineLayer rows columns rowTable columnTable (repaired rows columns lines rowTable columnTable) .marks)
+unfolding handedOver repairedBy
+marks-handed rows columns lines rowTable columnTable =
+    let found = linesIn (rows * columns) lines in
+    let given = repair-marks lineLayer kept (usedGroups lineLayer rows columns rowTable columnTable) found in
+    record { each = given .each ∙ length-linesIn (rows * columns) lines; high = given .high }
 
 module _ (rows columns : ℕ) (lines rowTable columnTable : List ℕ) where
   -- ---- each entry point's refusals, 0 among them

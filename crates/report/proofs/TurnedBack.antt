@@ -12,7 +12,7 @@ use Rattle.scheme.specs.Demand3.{_∈_}
 use Rattle.rectangle.specs.Store.{lineLayer}
 use Rattle.rectangle.specs.Refusals.{repairRefusal, repairAnswers}
 use Rattle.rectangle.specs.Repair.{Buffers, StoreRepaired, usedGroups, repaired, handsOver, handedOver, repairStore}
-use Rattle.rectangle.proofs.Runs.{zero-or-not, answer-hands-over, refusal-hands-nothing, repair-runs, repair-refused, repair-answers}
+use Rattle.rectangle.proofs.Runs.{zero-or-not, answer-hands-over, marks-handed, refusal-hands-nothing, repair-runs, repair-refused, repair-answers}
 use Rattle.rectangle.proofs.Tests.{every-at, not-among, either-way}
 use Rattle.storefile.specs.Opening.{rowsIn, columnsIn, openRefusal, opened}
 use Rattle.results.specs.Marks.{countsOf, total}
@@ -25,7 +25,6 @@ use Rattle.storefile.proofs.Answers.{openAnswers, opening-answers}
 use Rattle.storefile.proofs.Openings.{Outcome, accepted, refused, outcome}
 use Rattle.report.proofs.Checking.{check-refused, check-turned-back, check-counted}
 use Rattle.results.proofs.Adding.{counts-add-up}
-use Rattle.results.proofs.Repairing.{marks-handed}
 
 -- ---- which answers hand over
 opening-refuses : (n : ℕ) → n ∈ openAnswers → (n ≡ 0 → ⊥) → handsOver n ≡ false
@@ -85,7 +84,7 @@ module _ (limit : ℕ) (file : List ℕ) (b : Buffers) where
 
     checks-opened : Repairing (rows * columns) b r → Checks b (checkStore limit file b)
     checks-opened (over h e f) =
-        subst (Checks b) (check-counted limit file b _ is refl r refl h (countsOf (r .marks)) refl) (over h (counts-add-up (r .marks) f ∙ e))
+        subst (Checks b) (check-counted limit file b _ is refl r refl h (countsOf (r .marks)) refl) (over h (counts-add-up (r .marks) .1 f ∙ e))
     checks-opened (none h e) =
         subst (Checks b) (check-turned-back limit file b _ is refl r refl h (refusedWith (r .answer)) refl) (turned (r .answer) (leftBy r) h e)
 

@@ -10,7 +10,7 @@ use lib.Dec.{eqb, leb}
 use lib.ListN.{length, getD}
 use Rattle.rectangle.specs.Refusals.{every}
 use Rattle.results.specs.Marks.{countOf, countsOf, total}
-use Rattle.results.specs.Promises.{CountsAddUp, CountsTellMarks}
+use Rattle.results.specs.Promises.{CountsAddUp}
 
 -- one mark more is counted once, and another byte not at all
 one-more : (m : ℕ) (rest : List ℕ) → m ≤ 4 → total (countsOf (m ∷ rest)) ≡ suc (total (countsOf rest))
@@ -66,7 +66,8 @@ tells (m ∷ rest) = go (leb m 4) refl (tells rest)
           most = omega (arith, none, r .most);
         }
 
-pub counts-tell-marks : CountsTellMarks
+-- as a test
+pub counts-tell-marks : (marks : List ℕ) → eqb (total (countsOf marks)) (length marks) ≡ every isMark marks
 counts-tell-marks marks = go (every isMark marks) refl
   where
     go : (t : Bool) → every isMark marks ≡ t → eqb (total (countsOf marks)) (length marks) ≡ t
@@ -88,7 +89,8 @@ pub all-marks : (l : List ℕ) → (every isMark l ≡ true) ↔ ((n : ℕ) → 
 all-marks l = (marks-high l, high-marks l)
 
 pub counts-add-up : CountsAddUp
-counts-add-up marks small = tells marks .all (high-marks marks small)
+counts-add-up marks =
+    (λ e. marks-high marks (sym (counts-tell-marks marks) ∙ eq-eqb _ _ e), λ small. tells marks .all (high-marks marks small))
 
 pub counts-few : (marks : List ℕ) → total (countsOf marks) ≤ length marks
 counts-few marks = tells marks .most

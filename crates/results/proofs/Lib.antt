@@ -2,4 +2,3 @@
 pub mod Counting
 pub mod Adding
 pub mod Pieces
-pub mod Repairing

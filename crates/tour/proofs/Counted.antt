@@ -14,21 +14,21 @@ use Rattle.rectangle.proofs.Tests.{every-at}
 use Rattle.results.specs.Marks.{countOf, countsOf, plusCounts}
 use Rattle.results.proofs.Counting.{count-together, counts-together}
 use Rattle.results.proofs.Adding.{counts-add-up}
-use Rattle.tour.specs.Wear.{Result, linesOf, marksOf, answersOf, wearOf, empty}
+use Rattle.tour.specs.Wear.{Result, linesSeen, marksSeen, answersOf, wearOf, empty}
 use Rattle.tour.specs.Adding.{mostStores, answersTotal, isResult, hasRoom, plusAnswers, plus, addStore, addAll, takenIn}
 use Rattle.tour.specs.Promises.{IsReport, IsResult, Counted, StaysReport}
 use Rattle.tour.specs.declared.Wear as Declared
 use Rattle.tour.proofs.Refused.{report-is, takes, added-taken, added-refused, tests}
 
 -- ---- lists of stores one after the other
-lines-together : (a b : List Result) → linesOf (a ++ b) ≡ linesOf a + linesOf b
-lines-together [] b = sym (zero-add (linesOf b))
+lines-together : (a b : List Result) → linesSeen (a ++ b) ≡ linesSeen a + linesSeen b
+lines-together [] b = sym (zero-add (linesSeen b))
 lines-together (store ∷ a) b = omega (arith, lines-together a b)
 
-marks-together : (a b : List Result) → marksOf (a ++ b) ≡ marksOf a ++ marksOf b
+marks-together : (a b : List Result) → marksSeen (a ++ b) ≡ marksSeen a ++ marksSeen b
 marks-together [] b = refl
 marks-together (store ∷ a) b =
-    ap (λ (l : List ℕ). store .marks ++ l) (marks-together a b) ∙ sym (append-assoc (store .marks) (marksOf a) (marksOf b))
+    ap (λ (l : List ℕ). store .marks ++ l) (marks-together a b) ∙ sym (append-assoc (store .marks) (marksSeen a) (marksSeen b))
 
 answers-together : (a b : List ℕ) → answersOf (a ++ b) ≡ plusAnswers (answersOf a) (answersOf b)
 unfolding answersOf plusAnswers
@@ -44,7 +44,7 @@ together a b =
       length-append a b,
       lines-together a b,
       marks-together a b,
-      counts-together (marksOf a) (marksOf b),
+      counts-together (marksSeen a) (marksSeen b),
       map-append answerOf a b,
       answers-together (map answerOf a) (map answerOf b),
     )
@@ -95,7 +95,7 @@ one-report store r =
     (record {
       stores = omega arith;
       lines = omega (arith, r .most);
-      marks = counts-add-up (store .marks) (r .marks);
+      marks = counts-add-up (store .marks) .1 (r .marks);
       answers = one-answer (store .answer) (r .answer);
     })
 
@@ -173,11 +173,9 @@ unfolding wearOf
 counted results =
     let from-none : addAll empty results ≡ wearOf (takenIn empty results) =
     added-all results empty ∙ sym (together [] (takenIn empty results)) in
-    let end = all-report results empty empty-report in
     record {
       report = from-none;
       taken = taken-from results empty mostStores empty-report (zero-add mostStores);
       lines = ap (λ (w : Declared.Wear). w .lines) from-none;
-      marks = end .marks;
-      answers = end .answers;
+      adds = all-report results empty empty-report;
     }

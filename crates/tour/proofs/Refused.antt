@@ -13,7 +13,7 @@ use Rattle.rectangle.proofs.Tests.{every-at}
 use Rattle.results.proofs.Adding.{all-marks}
 use Rattle.tour.specs.Wear.{Result, wearOf}
 use Rattle.tour.specs.Adding.{mostStores, mostLines, isReport, isResult, hasRoom, plus, addStore}
-use Rattle.tour.specs.Share.{compareShares}
+use Rattle.tour.specs.Share.{shareOrder, compareShares}
 use Rattle.tour.specs.Promises.{IsReport, IsResult, Refused}
 use Rattle.tour.specs.declared.Wear as Declared
 use Rattle.tour.specs.declared.Added.{Added}
@@ -109,6 +109,14 @@ tests w store = (
   λ t. rw (report-is w (t .0), room w .1 (t .1), result-is store (t .2)),
 )
 
+-- what is compared has the order of the shares
+abbrev comparedIf : Declared.Wear → Declared.Wear → Bool → Compared
+comparedIf a b t = cond t (record { answer = 0; order = shareOrder a b }) (record { answer = 15; order = 0 })
+
+ordered : (a b : Declared.Wear) (t : Bool) → comparedIf a b t .answer ≡ 0 → comparedIf a b t .order ≡ shareOrder a b
+ordered a b true e = refl
+ordered a b false e = let z : ⊥ = omega (arith, e) in absurd z
+
 pub refused : Refused
 unfolding addStore compareShares
 refused =
@@ -119,5 +127,6 @@ refused =
       compared = λ a b.
           Iff·trans (taken-tells (λ (c : Compared). c .answer) _ _ refl refl (isReport a && isReport b))
           (Iff·trans (and-eq-true-iff (isReport a) (isReport b)) (Iff·and (is-report a, report-is a) (is-report b, report-is b)));
+      ordered = λ a b. ordered a b (isReport a && isReport b);
       notCompared = λ a b. not-taken (λ (c : Compared). c .answer) _ _ refl (isReport a && isReport b);
     }

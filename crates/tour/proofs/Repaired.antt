@@ -1,16 +1,16 @@
 -- What repair hands over is a result that a report takes in, and what it refuses is none.
-use mathlib.Core.Path.{_≡_, refl}
+use mathlib.Core.Path.{_≡_, refl, _∙_}
 use mathlib.Core.Bool.{Bool, true, false, and-false}
 use Prim.Native.Nat.{_*_, _≤_}
-use native.Mathlib.Nat.{mul-le-mul}
+use native.Mathlib.Nat.{add-zero, mul-le-mul}
 use native.Mathlib.Omega.{arith}
 use Rattle.scheme.specs.Marks.{LineMarks}
 use Rattle.rectangle.specs.Repair.{Buffers, handsOver}
 use Rattle.rectangle.proofs.Area.{area}
 use Rattle.rectangle.proofs.Groups.{Sides, sides}
+use Rattle.rectangle.proofs.Runs.{marks-handed}
 use Rattle.demands.specs.Demands.{Rectangle, count, repairOf}
 use Rattle.demands.proofs.Refused.{handed, sizes}
-use Rattle.results.proofs.Repairing.{marks-handed}
 use Rattle.tour.specs.Wear.{Result}
 use Rattle.tour.specs.Adding.{isResult}
 use Rattle.tour.specs.Promises.{resultOf, RepairGivesResult}
@@ -45,7 +45,11 @@ unfolding isResult
 not-result store e = simp (and-false, e)
 
 pub repair-gives-result : RepairGivesResult
-repair-gives-result r work = go (handsOver (repairOf r work .answer)) refl
+repair-gives-result r work =
+    record {
+      result = go (handsOver (repairOf r work .answer)) refl;
+      lines = λ h. add-zero _ ∙ marks-given r work h .each;
+    }
   where
     go : (b : Bool) → handsOver (repairOf r work .answer) ≡ b → isResult (resultOf (repairOf r work)) ≡ b
     go true h = result-given r work h

@@ -22,10 +22,9 @@ mostLines = 4194304
 
 -- all stores that were counted by their answers
 abbrev pub answersTotal : Answers → ℕ
-answersTotal a = a .whole + a .left + a .differs
+answersTotal a = a .done + a .left + a .differs
 
--- 15: "a report's marks or answers don't add up to its lines or stores, it has more than 4,194,304 lines for each store or above 1,000,000
--- stores"
+-- 15, of a report: at most 1,000,000 stores, at most 4,194,304 lines for each, marks that add up to the lines and answers to the stores
 unfoldable pub isReport : Declared.Wear → Bool
 isReport w =
     leb (w .stores) mostStores
@@ -33,7 +32,7 @@ isReport w =
     && (eqb (total (w .marks)) (w .lines)
     && eqb (answersTotal (w .answers)) (w .stores)))
 
--- 15: "or the result isn't 4 to 4,194,304 marks of 0 to 4 with answer 0, 11 or 12"
+-- 15, of a result: 4 to 4,194,304 marks of 0 to 4, with answer 0, 11 or 12
 unfoldable pub isResult : Result → Bool
 isResult store =
     leb 4 (length (store .marks))
@@ -41,14 +40,15 @@ isResult store =
     && (every (λ m. leb m 4) (store .marks)
     && handsOver (store .answer)))
 
--- 15: "adding, has that many already"
+-- 15, adding: fewer than 1,000,000 stores so far
 unfoldable pub hasRoom : Declared.Wear → Bool
 hasRoom w = ltb (w .stores) mostStores
 
--- two reports together, number by number
+-- the stores for each answer, of two reports together
 unfoldable pub plusAnswers : Answers → Answers → Answers
-plusAnswers a b = record { whole = a .whole + b .whole; left = a .left + b .left; differs = a .differs + b .differs }
+plusAnswers a b = record { done = a .done + b .done; left = a .left + b .left; differs = a .differs + b .differs }
 
+-- two reports together, number by number
 unfoldable pub plus : Declared.Wear → Declared.Wear → Declared.Wear
 plus a b =
     record {

@@ -19,17 +19,17 @@ unfoldable pub numbersOf : Declared.Wear → List ℕ
 numbersOf w =
     w .stores ∷ w .lines
     ∷ w .marks .clean ∷ w .marks .alone ∷ w .marks .trial ∷ w .marks .rebuilt ∷ w .marks .faulty
-    ∷ w .answers .whole ∷ w .answers .left ∷ w .answers .differs ∷ []
+    ∷ w .answers .done ∷ w .answers .left ∷ w .answers .differs ∷ []
 
 -- the report that ten numbers are
 unfoldable pub wearIn : List ℕ → Declared.Wear
 wearIn numbers =
-    let at = getD numbers in
+    let at : ℕ → ℕ = λ n. getD numbers n 0 in
     record {
-      stores = at 0 0;
-      lines = at 1 0;
-      marks = record { clean = at 2 0; alone = at 3 0; trial = at 4 0; rebuilt = at 5 0; faulty = at 6 0 };
-      answers = record { whole = at 7 0; left = at 8 0; differs = at 9 0 };
+      stores = at 0;
+      lines = at 1;
+      marks = record { clean = at 2; alone = at 3; trial = at 4; rebuilt = at 5; faulty = at 6 };
+      answers = record { done = at 7; left = at 8; differs = at 9 };
     }
 
 -- what an addition answers, and the numbers as it leaves them

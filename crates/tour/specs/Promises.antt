@@ -1,33 +1,20 @@
 -- What is promised of wear reports beyond their definitions (request Q-5); the proofs stand in proofs/.
 use mathlib.Core.Path.{_≡_}
 use mathlib.Core.Logic.{_⊎_, _↔_}
+use mathlib.Core.Bool.{true}
 use mathlib.Core.List.{List, [], _∷_}
 use Prim.Native.Nat.{ℕ, _*_, _≤_, _<_}
 use lib.ListN.{length, take, getD}
 use Rattle.scheme.specs.Visit.{select}
 use Rattle.scheme.specs.Demand3.{_∈_}
 use Rattle.rectangle.specs.Repair.{Buffers, StoreRepaired, handsOver}
-use Rattle.demands.specs.Demands.{Rectangle, repairOf}
+use Rattle.demands.specs.Demands.{Rectangle, count, repairOf}
 use Rattle.results.specs.Marks.{total}
-use Rattle.tour.specs.Wear.{Result, linesOf, wearOf, empty}
+use Rattle.tour.specs.Wear.{Result, linesSeen, wearOf, empty}
 use Rattle.tour.specs.Adding.{mostStores, answersTotal, isResult, addStore, addAll, takenIn}
 use Rattle.tour.specs.Share.{orderOf, shareOrder, compareShares}
 use Rattle.tour.specs.Numbers.{numbersOf, wearIn, addNumbers, compareNumbers}
 use Rattle.tour.specs.declared.Wear as Declared
-
--- ---- "Lines seen must equal the lines in all stores taken in since the empty report, and the mark counts must add up to it; all counts
--- are defined from the list of these stores, refused ones left out."
-pub record CountedFrom (results : List Result) : Type 0 where
-  -- the report is the one of the stores that were taken in
-  pub report : addAll empty results ≡ wearOf (takenIn empty results)
-  -- and these are the first million of those that are results at all
-  pub taken : takenIn empty results ≡ take mostStores (select isResult results)
-  pub lines : addAll empty results .lines ≡ linesOf (takenIn empty results)
-  pub marks : total (addAll empty results .marks) ≡ addAll empty results .lines
-  pub answers : answersTotal (addAll empty results .answers) ≡ addAll empty results .stores
-
-abbrev pub Counted : Type 0
-Counted = (results : List Result) → CountedFrom results
 
 -- ---- "Errors: 15, after 8, when a report's marks or answers don't add up to its lines or stores, it has more than 4,194,304 lines for
 -- each store or above 1,000,000 stores, or, adding, has that many already or the result isn't 4 to 4,194,304 marks of 0 to 4 with answer
@@ -44,24 +31,43 @@ pub record IsResult (store : Result) : Type 0 where
   pub marks : (n : ℕ) → n < length (store .marks) → getD (store .marks) n 0 ≤ 4
   pub answer : store .answer ∈ (0 ∷ 11 ∷ 12 ∷ [])
 
+-- ---- "Lines seen must equal the lines in all stores taken in since the empty report, and the mark counts must add up to it; all counts
+-- are defined from the list of these stores, refused ones left out."
+pub record CountedFrom (results : List Result) : Type 0 where
+  -- the report is the one of the stores that were taken in
+  pub report : addAll empty results ≡ wearOf (takenIn empty results)
+  -- and these are the first million of those that are results at all
+  pub taken : takenIn empty results ≡ take mostStores (select isResult results)
+  pub lines : addAll empty results .lines ≡ linesSeen (takenIn empty results)
+  -- its marks add up to its lines and its answers to its stores, and no addition or comparison is refused for it, but for its million stores
+  pub adds : IsReport (addAll empty results)
+
+abbrev pub Counted : Type 0
+Counted = (results : List Result) → CountedFrom results
+
 -- what is taken, with 0, and all else is 15: "A refused addition leaves the report unchanged."
 pub record Refused : Type 0 where
   pub taken : (w : Declared.Wear) (store : Result) → (addStore w store .answer ≡ 0) ↔ (IsReport w × (w .stores < 1000000) × IsResult store)
   pub refused : (w : Declared.Wear) (store : Result) → (addStore w store .answer ≡ 0 → ⊥)
       → addStore w store ≡ record { answer = 15; wear = w }
   pub compared : (a b : Declared.Wear) → (compareShares a b .answer ≡ 0) ↔ (IsReport a × IsReport b)
+  pub ordered : (a b : Declared.Wear) → compareShares a b .answer ≡ 0 → compareShares a b .order ≡ shareOrder a b
   pub notCompared : (a b : Declared.Wear) → (compareShares a b .answer ≡ 0 → ⊥) → compareShares a b ≡ record { answer = 15; order = 0 }
 
--- what was added to is a report again, so that neither the next addition nor a comparison is refused for it
+-- what was added to is a report again
 abbrev pub StaysReport : Type 0
 StaysReport = (w : Declared.Wear) (store : Result) → IsReport w → IsReport (addStore w store .wear)
 
--- ---- "one repair result": what repair hands over is one, whatever was damaged, and what it refuses is none
+-- ---- "one repair result": what repair hands over is one, with a mark for each line of the store, and what it refuses is none
 abbrev pub resultOf : StoreRepaired → Result
 resultOf r = record { marks = r .marks; answer = r .answer }
 
+pub record GivesResult (r : Rectangle) (given : StoreRepaired) : Type 0 where
+  pub result : isResult (resultOf given) ≡ handsOver (given .answer)
+  pub lines : handsOver (given .answer) ≡ true → linesSeen (resultOf given ∷ []) ≡ count r
+
 abbrev pub RepairGivesResult : Type 0
-RepairGivesResult = (r : Rectangle) (work : Buffers) → isResult (resultOf (repairOf r work)) ≡ handsOver (repairOf r work .answer)
+RepairGivesResult = (r : Rectangle) (work : Buffers) → GivesResult r (repairOf r work)
 
 -- ---- "The share of rebuilt lines in two reports is compared exactly in whole numbers, and a report with no lines counts as share zero."
 -- x out of m is a report's share: as its rebuilt lines out of its lines, and none where it has no lines

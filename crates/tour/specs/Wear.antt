@@ -12,26 +12,26 @@ pub record Result : Type 0 where
   pub answer : ℕ
 
 -- "the lines in all stores taken in"
-abbrev pub linesOf : List Result → ℕ
-linesOf [] = 0
-linesOf (store ∷ stores) = length (store .marks) + linesOf stores
+abbrev pub linesSeen : List Result → ℕ
+linesSeen [] = 0
+linesSeen (store ∷ stores) = length (store .marks) + linesSeen stores
 
 -- the marks of all stores, one store after the other
-abbrev pub marksOf : List Result → List ℕ
-marksOf [] = []
-marksOf (store ∷ stores) = store .marks ++ marksOf stores
+abbrev pub marksSeen : List Result → List ℕ
+marksSeen [] = []
+marksSeen (store ∷ stores) = store .marks ++ marksSeen stores
 
 -- "stores for each answer 0, 11 and 12"
 unfoldable pub answersOf : List ℕ → Answers
-answersOf answers = record { whole = countOf 0 answers; left = countOf 11 answers; differs = countOf 12 answers }
+answersOf answers = record { done = countOf 0 answers; left = countOf 11 answers; differs = countOf 12 answers }
 
 -- "stores seen, lines seen, lines for each mark, and stores for each answer"
 unfoldable pub wearOf : List Result → Declared.Wear
 wearOf stores =
     record {
       stores = length stores;
-      lines = linesOf stores;
-      marks = countsOf (marksOf stores);
+      lines = linesSeen stores;
+      marks = countsOf (marksSeen stores);
       answers = answersOf (map (λ (store : Result). store .answer) stores);
     }
 

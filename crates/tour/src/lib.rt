@@ -4,7 +4,7 @@ use results::marks::Counts;
 
 // How many stores repair handed over with each of its answers 0, 11 and 12.
 pub struct Answers {
-    pub whole: u64,
+    pub done: u64,
     pub left: u64,
     pub differs: u64,
 }

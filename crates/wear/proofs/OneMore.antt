@@ -15,6 +15,7 @@ use Rattle.results.proofs.Adding.{counts-tell-marks}
 use Rattle.tour.specs.Wear.{Result, answersOf}
 use Rattle.tour.specs.Adding.{mostLines, isReport, isResult, hasRoom, plus, addStore}
 use Rattle.tour.specs.declared.Wear as Declared
+use Rattle.tour.proofs.Refused.{added-taken, added-refused}
 use Rattle.tour.proofs.Counted.{one-store}
 
 -- a million and one more
@@ -52,8 +53,7 @@ module _ (w : Declared.Wear) (marks : List ℕ) (answer : ℕ) where
   tests = made-last (isReport w) (hasRoom w) atLeast atMost allMarks (handsOver answer)
 
   pub not-taken : Takes ≡ false → addStore w store ≡ record { answer = 15; wear = w }
-  unfolding addStore
-  not-taken p = rw (tests, p)
+  not-taken p = added-refused w store (tests ∙ rw p)
 
   -- what they tell
   pub takes-report : Takes ≡ true → isReport w ≡ true
@@ -74,11 +74,9 @@ module _ (w : Declared.Wear) (marks : List ℕ) (answer : ℕ) where
 
   pub no-marks : Takes ≡ true → eqb (total (countsOf marks)) (length marks) ≡ false
       → addStore w store ≡ record { answer = 15; wear = w }
-  unfolding addStore
-  no-marks p q = rw (marks-left p ∙ q)
+  no-marks p q = added-refused w store (marks-left p ∙ q)
 
   pub taken : Takes ≡ true → eqb (total (countsOf marks)) (length marks) ≡ true → (next : Declared.Wear)
       → next ≡ plus w (record { stores = 1; lines = length marks; marks = countsOf marks; answers = answersOf (answer ∷ []) })
       → record { answer = 0; wear = next } ≡ addStore w store
-  unfolding addStore
-  taken p q next e = rw (marks-left p ∙ q, one-store store, e)
+  taken p q next e = rw (added-taken w store (marks-left p ∙ q), one-store store, e)

@@ -35,11 +35,11 @@ fn counted(found: u32, answer: u32) -> u64
 
 // The stores for each answer, with one more.
 fn plus_answer(a: Answers, answer: u32) -> Answers
-    requires { ⌜ (a .whole ≤ 1000000) × (a .left ≤ 1000000) × (a .differs ≤ 1000000) ⌝ }
+    requires { ⌜ (a .done ≤ 1000000) × (a .left ≤ 1000000) × (a .differs ≤ 1000000) ⌝ }
     ensures { λ r. ⌜ r ≡ plusAnswers a (answersOf (answer ∷ [])) ⌝ }
 {
     Answers {
-        whole: a.whole + counted(answer, 0),
+        done: a.done + counted(answer, 0),
         left: a.left + counted(answer, 11),
         differs: a.differs + counted(answer, 12),
     }

@@ -25,7 +25,7 @@ fn read(numbers: &[u64]) -> Wear
             faulty: numbers[6],
         },
         answers: Answers {
-            whole: numbers[7],
+            done: numbers[7],
             left: numbers[8],
             differs: numbers[9],
         },
@@ -46,7 +46,7 @@ fn write(w: Wear, numbers: &mut [u64])
     numbers[4] = marks.trial;
     numbers[5] = marks.rebuilt;
     numbers[6] = marks.faulty;
-    numbers[7] = answers.whole;
+    numbers[7] = answers.done;
     numbers[8] = answers.left;
     numbers[9] = answers.differs;
 }
@@ -74,16 +74,10 @@ pub fn compare_numbers(a: &[u64], b: &[u64]) -> Compared
     ensures { λ r. ⌜ r ≡ compareNumbers (now (a .entry)) (now (b .entry)) ⌝ }
 {
     if a.len() != 10 {
-        return Compared {
-            answer: 7,
-            order: 0,
-        };
+        return share::not_compared(7);
     }
     if b.len() != 10 {
-        return Compared {
-            answer: 7,
-            order: 0,
-        };
+        return share::not_compared(7);
     }
     share::compare(read(a), read(b))
 }

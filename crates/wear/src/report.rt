@@ -19,7 +19,7 @@ pub fn empty_report() -> Wear
         lines: 0,
         marks: marks::none(),
         answers: Answers {
-            whole: 0,
+            done: 0,
             left: 0,
             differs: 0,
         },
@@ -59,7 +59,7 @@ pub fn marks_add_up(c: Counts, lines: u64) -> bool
 fn answers_add_up(a: Answers, stores: u64) -> bool
     ensures { λ r. ⌜ r ≡ eqb (answersTotal a) stores ⌝ }
 {
-    add_up(stores, a.whole, a.left, a.differs, 0, 0)
+    add_up(stores, a.done, a.left, a.differs, 0, 0)
 }
 
 // Whether some numbers are a report. The product is made once the stores are known to be few.

@@ -71,21 +71,22 @@ fn share_order(a: Wear, b: Wear) -> u32
     order(first, second)
 }
 
+// A refused comparison: order 0.
+pub fn not_compared(answer: u32) -> Compared
+    ensures { λ r. ⌜ r ≡ record { answer = answer; order = 0 } ⌝ }
+{
+    Compared { answer, order: 0 }
+}
+
 // The entry point: the order of two shares of rebuilt lines; 15 and 0 where one is no report.
 pub fn compare(a: Wear, b: Wear) -> Compared
     ensures { λ r. ⌜ r ≡ compareShares a b ⌝ }
 {
     if !report::is_report(a) {
-        return Compared {
-            answer: 15,
-            order: 0,
-        };
+        return not_compared(15);
     }
     if !report::is_report(b) {
-        return Compared {
-            answer: 15,
-            order: 0,
-        };
+        return not_compared(15);
     }
     Compared {
         answer: 0,

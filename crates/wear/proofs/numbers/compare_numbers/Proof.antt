@@ -6,13 +6,19 @@ use borrow.Author.Needs.{needs}
 use Rattle.wear.proofs.numbers.compare_numbers.Statement.{statement}
 use Rattle.wear.proofs.numbers.compare_numbers.Tie as tie
 
+not-compared-requires : tie.Need-not-compared-requires
+not-compared-requires c κs = search needs
+
 returns : tie.Need-returns
 unfolding compareNumbers reportNumbers
-returns c = rw (ne-eqb _ _ (c .if1 .taken))
+returns c = rw (ne-eqb _ _ (c .before .if1 .taken)) (c .not-compared .ensures)
+
+not-compared-requires-2 : tie.Need-not-compared-requires-2
+not-compared-requires-2 c κs = search needs
 
 returns-2 : tie.Need-returns-2
 unfolding compareNumbers reportNumbers
-returns-2 c = rw (eq-eqb _ _ (c .before .if1 .left), ne-eqb _ _ (c .if2 .taken))
+returns-2 c = rw (eq-eqb _ _ (c .before .before .if1 .left), ne-eqb _ _ (c .before .if2 .taken)) (c .not-compared2 .ensures)
 
 read-requires : tie.Need-read-requires
 read-requires c κs = search needs
@@ -30,4 +36,13 @@ returns-3 c =
 
 pub compare-numbers-spec : {M : Type 1} → statement M
 compare-numbers-spec =
-    tie.close (tie.spec returns returns-2 read-requires read-requires-2 compare-requires returns-3)
+    tie.close
+    (tie.spec
+    not-compared-requires
+    returns
+    not-compared-requires-2
+    returns-2
+    read-requires
+    read-requires-2
+    compare-requires
+    returns-3)

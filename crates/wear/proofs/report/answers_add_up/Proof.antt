@@ -13,7 +13,7 @@ add-up-requires c κs = search needs
 returns : tie.Need-returns
 returns c =
     let a = c .before .args .a in
-    let none : a .whole + a .left + a .differs + 0 + 0 ≡ a .whole + a .left + a .differs = omega arith in
+    let none : a .done + a .left + a .differs + 0 + 0 ≡ a .done + a .left + a .differs = omega arith in
     c .add-up .ensures ∙ ap (λ (n : ℕ). eqb n (c .before .args .stores)) none
 
 pub answers-add-up-spec : {M : Type 1} → statement M
