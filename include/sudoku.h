@@ -41,7 +41,8 @@
  * - Lines and tables of zero bytes are a valid store, all lines and parity lines correct. Memory that was cleared cannot be told
  *   from a store of empty captions.
  * - A wear report is ten numbers, and the empty report is ten zeros. sudoku_wear_add counts every result that it is handed, the same
- *   one again too: call it once for each repair. A refused repair has no result, and adding its answer is refused with 15.
+ *   one again too: call it once for each repair. A refused repair has no result, and adding its answer is refused with 15. What
+ *   sudoku_read_one leaves is no result either, but would be taken for one: its marks are zeros. Add only what sudoku_repair gave.
  *
  * Calls keep no state and allocate nothing, so threads may call at once, each on writable buffers of its own.
  *

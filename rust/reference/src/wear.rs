@@ -16,8 +16,8 @@ pub const NUMBERS: usize = 10;
 /// The most stores in a report.
 pub const MOST_STORES: u64 = 1_000_000;
 
-/// The fewest lines of one store.
-pub const FEWEST_LINES: u64 = 4;
+/// The least number of lines of one store.
+pub const LEAST_LINES: u64 = 4;
 
 /// The most lines of one store.
 pub const MOST_LINES: u64 = 4_194_304;
@@ -110,7 +110,7 @@ fn adds_up(report: &[u64; NUMBERS]) -> bool {
 /// Whether a result may be added: as many marks as a store can have lines, all
 /// of them marks, and an answer that is counted.
 fn fits((marks, answer): &(&[u8], u32)) -> bool {
-    (FEWEST_LINES..=MOST_LINES).contains(&(marks.len() as u64))
+    (LEAST_LINES..=MOST_LINES).contains(&(marks.len() as u64))
         && marks.iter().all(|&mark| mark <= mark::FAULTY)
         && COUNTED.contains(answer)
 }

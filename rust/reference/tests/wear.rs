@@ -18,6 +18,7 @@ fn add(wear: &[u64], marks: &[u8], answer: u32) -> q5::Added {
 fn additions_worked_out_by_hand() {
     q5::expect_additions(&cases::taken(), add);
     q5::expect_additions(&cases::longest(), add);
+    q5::expect_additions(&q5::onto_whole_reports(), add);
     q5::expect_tour(add);
 }
 
@@ -74,10 +75,27 @@ fn a_list_is_counted_up_to_a_million_stores() {
     assert_eq!(wear, full);
 }
 
+/// Results one after another from the empty report on: the report is always that
+/// of the list so far.
 #[test]
 fn drawn_lists_give_their_counts() {
     let mut random = Random::new(50);
-    let refused: usize = (0..60).map(|_| q5::check_list(&mut random, 20, add)).sum();
+    let mut refused = 0;
+    for _ in 0..60 {
+        let (mut wear, mut list) = (cases::EMPTY.to_vec(), vec![]);
+        let mut taken = 0;
+        for _ in 0..20 {
+            let (marks, answer) = draw::result(&mut random);
+            let (given, after) = add(&wear, &marks, answer);
+            list.push((marks, answer));
+            assert_eq!(after == wear, given == 15, "a refusal leaves it as it was");
+            taken += u64::from(given == 0);
+            wear = after;
+            assert_eq!(wear, wear_of(&list));
+        }
+        assert_eq!(wear[0], taken);
+        refused += 20 - taken;
+    }
     println!("refused {refused} of 1200");
     assert!((100..600).contains(&refused));
 }

@@ -22,8 +22,8 @@ const DIFFERS: usize = 9;
 ///
 /// A value of this type is always a report: the lines for each mark add up to
 /// the lines and the stores for each answer to the stores. Two reports are equal
-/// if all their numbers are. By how worn the stores are they are ordered through
-/// [`Wear::rebuilt_share`].
+/// if all their numbers are. They have no order of their own: how worn stores are
+/// is compared by [`Wear::rebuilt_share`].
 ///
 /// Shown with `{}` it is a small table for people:
 ///
@@ -33,7 +33,7 @@ const DIFFERS: usize = 9;
 /// assert_eq!(
 ///     wear.to_string(),
 ///     "\
-/// 3 stores, 48 lines, 4.17 % rebuilt
+/// 3 stores, 48 lines, 2 rebuilt (4.17 %)
 /// lines   clean    39   81.25 %  correct as found
 ///         alone     3    6.25 %  rewritten, each by itself
 ///         trial     2    4.17 %  mended by trial
@@ -99,6 +99,9 @@ impl Wear {
 
     /// Takes in a result by its numbers: a mark for each line and the answer, as
     /// [`c::repair`] hands them over.
+    ///
+    /// What [`c::read_one`] leaves is no result, but would be taken for one: the
+    /// marks among its work buffers are zeros. Add only what repair gave.
     ///
     /// ```
     /// use sudoku::{Answer, Wear};

@@ -3,7 +3,7 @@
 
 use crate::answer;
 use crate::random::Random;
-use crate::wear::{FEWEST_LINES, MOST_LINES, MOST_STORES, NUMBERS};
+use crate::wear::{LEAST_LINES, MOST_LINES, MOST_STORES, NUMBERS};
 
 /// The most lines in a report.
 const ALL_LINES: u64 = MOST_STORES * MOST_LINES;
@@ -28,7 +28,7 @@ pub fn report(random: &mut Random) -> [u64; NUMBERS] {
         0 => 0,
         1 => most,
         2 => most.saturating_sub(1),
-        3 => stores * FEWEST_LINES,
+        3 => stores * LEAST_LINES,
         _ => size(random, most),
     };
     let rebuilt = match random.below(6) {
@@ -52,7 +52,7 @@ fn report_of_halves(random: &mut Random) -> [u64; NUMBERS] {
 /// So many stores as can have these lines.
 fn stores_for(random: &mut Random, lines: u64) -> u64 {
     let fewest = lines.div_ceil(MOST_LINES);
-    let most = (lines / FEWEST_LINES).clamp(fewest, MOST_STORES);
+    let most = (lines / LEAST_LINES).clamp(fewest, MOST_STORES);
     random.between(fewest as usize, most as usize) as u64
 }
 
@@ -178,7 +178,7 @@ pub fn numbers(random: &mut Random) -> Vec<u64> {
 
 /// A repair result that may be added: four to `most` marks, and the answer.
 pub fn taken(random: &mut Random, most: usize) -> (Vec<u8>, u32) {
-    let least = FEWEST_LINES as usize;
+    let least = LEAST_LINES as usize;
     let top = random.between(least, most);
     let mut marks = vec![0; random.between(least, top)];
     match random.below(4) {
@@ -202,7 +202,7 @@ pub fn refused(random: &mut Random) -> (Vec<u8>, u32) {
     match random.below(16) {
         // These are long, so they are rare.
         0 => marks.resize(MOST_LINES as usize + 1, 0),
-        1..4 => marks.truncate(random.below(FEWEST_LINES as usize)),
+        1..4 => marks.truncate(random.below(LEAST_LINES as usize)),
         4..10 => {
             let at = random.below(marks.len());
             marks[at] = random.between(5, 255) as u8;

@@ -10,6 +10,7 @@
 
 pub mod cases;
 
+use std::array;
 use std::cmp::Ordering;
 
 use reference::draw::wear as draw;
@@ -35,6 +36,19 @@ pub fn expect_additions(cases: &[Addition], add: impl Fn(&[u64], &[u8], u32) -> 
         let given = add(&case.wear, &case.marks, case.answer);
         assert_eq!(given, due, "{}, onto {:?}", case.says, case.wear);
     }
+}
+
+/// Additions of four clean lines to reports that keep the limits: full ones alone
+/// refuse them.
+pub fn onto_whole_reports() -> Vec<Addition> {
+    let more = [1, 4, 4, 0, 0, 0, 0, 1, 0, 0];
+    let onto = |(says, report): (&str, Report)| {
+        let full = report[0] == 1_000_000;
+        let sum = array::from_fn(|i| report[i] + more[i]);
+        let due = if full { Err(15) } else { Ok(sum) };
+        Addition::new(says, &report, (&[0; 4], 0), due)
+    };
+    cases::whole_reports().into_iter().map(onto).collect()
 }
 
 /// Additions to reports of other lengths and to broken ones, of a result that
@@ -93,6 +107,9 @@ pub fn expect_refused_comparisons(compare: impl Fn(&[u64], &[u64]) -> Compared) 
     };
     for (says, report) in &whole {
         expect(says, report, report, (0, 0));
+        for (with, other) in &whole {
+            assert_eq!(compare(report, other).0, 0, "{says}, {with}");
+        }
     }
     for (says, report) in &broken {
         for (_, other) in whole.iter().chain(&broken) {
@@ -227,29 +244,6 @@ impl Seen {
 fn which<const N: usize>(answer: u32, answers: [u32; N]) -> usize {
     let place = answers.iter().position(|&of| of == answer);
     place.unwrap_or_else(|| panic!("answer {answer}"))
-}
-
-/// A drawn list of so many results, one after another from the empty report on:
-/// the report is always that of the list so far. Gives how many are refused.
-pub fn check_list(
-    random: &mut Random,
-    count: usize,
-    add: impl Fn(&[u64], &[u8], u32) -> Added,
-) -> usize {
-    let mut list = vec![];
-    let mut wear = EMPTY.to_vec();
-    let mut refused = 0;
-    for _ in 0..count {
-        let (marks, answer) = draw::result(random);
-        let (given, after) = add(&wear, &marks, answer);
-        list.push((marks, answer));
-        refused += usize::from(given != 0);
-        assert_eq!(after == wear, given == 15, "a refusal leaves it as it was");
-        wear = after;
-        assert_eq!(wear, wear_of(&list));
-    }
-    assert_eq!(wear[0], (count - refused) as u64);
-    refused
 }
 
 /// Reports of all shares, many of them nearly equal.

@@ -92,8 +92,18 @@ pub struct Percent {
 }
 
 impl Percent {
-    /// So many out of so many.
+    /// So many out of so many; a part that is more than the whole counts as all
+    /// of it.
+    ///
+    /// ```
+    /// use sudoku::Percent;
+    /// assert_eq!(Percent::of(3, 2).to_string(), "100.00 %");
+    /// // All of nothing is none.
+    /// assert_eq!(Percent::of(3, 0).to_string(), "0.00 %");
+    /// ```
     pub const fn of(part: u64, whole: u64) -> Percent {
+        // `min` can't be called in a `const fn`.
+        let part = if part < whole { part } else { whole };
         Percent { part, whole }
     }
 
@@ -109,7 +119,7 @@ impl Percent {
 impl fmt::Display for Percent {
     fn fmt(&self, f: &mut fmt::Formatter<'_>) -> fmt::Result {
         match self.hundredths() {
-            0 if self.part != 0 && self.whole != 0 => f.pad("<0.01 %"),
+            0 if self.part > 0 => f.pad("<0.01 %"),
             10_000 if self.part < self.whole => f.pad(">99.99 %"),
             rounded => f.pad(&format!("{}.{:02} %", rounded / 100, rounded % 100)),
         }

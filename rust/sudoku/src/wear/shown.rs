@@ -74,9 +74,10 @@ impl Display for Wear {
         let (stores, lines) = (self.stores(), self.lines());
         write!(
             f,
-            "{}, {}, {} rebuilt",
+            "{}, {}, {} rebuilt ({})",
             counted(stores, "store"),
             counted(lines, "line"),
+            grouped(self.lines_with(Mark::Rebuilt)),
             self.rebuilt_share()
         )?;
         let width = grouped(stores.max(lines)).len();

@@ -9,8 +9,7 @@ use sudoku::{Answer, Mark, Percent, Repaired, Store, TextError, Wear};
 
 use crate::crate_over_c::store_of;
 use crate::tours::counted;
-use crate::wear::q5::{self, cases::ALL_LINES, cases::EMPTY, cases::Report};
-use crate::wear::{STORES, report};
+use crate::wear::q5::{self, cases::ALL_LINES, cases::EMPTY, cases::Report, cases::of_share};
 
 /// The report that these numbers are.
 fn wear(numbers: Report) -> Wear {
@@ -46,6 +45,7 @@ fn compare(a: &[u64], b: &[u64]) -> q5::Compared {
 fn additions_worked_out_by_hand() {
     q5::expect_additions(&q5::cases::taken(), add);
     q5::expect_additions(&q5::cases::longest(), add);
+    q5::expect_additions(&q5::onto_whole_reports(), add);
     q5::expect_additions(&q5::cases::refused(), add);
     q5::expect_tour(add);
 }
@@ -102,9 +102,11 @@ fn what_is_refused_leaves_the_report() {
     assert_eq!(after.add(&four_lines()), Ok(()));
     assert_eq!(after.numbers(), [7, 29, 11, 6, 5, 4, 3, 4, 2, 1]);
 
-    let mut full = wear(report(STORES, ALL_LINES, 1));
+    let before = wear(of_share((1, ALL_LINES)));
+    let mut full = before;
+    assert_eq!(full.stores(), Wear::MOST_STORES);
     assert_eq!(full.add(&four_lines()), Err(Answer::Wear));
-    assert_eq!(full.numbers(), report(STORES, ALL_LINES, 1));
+    assert_eq!(full, before);
 }
 
 #[test]
@@ -198,7 +200,7 @@ fn a_person_reads_what_is_wrong() {
 #[test]
 fn an_empty_report_as_people_read_it() {
     let expected = "\
-0 stores, 0 lines, 0.00 % rebuilt
+0 stores, 0 lines, 0 rebuilt (0.00 %)
 lines   clean    0    0.00 %  correct as found
         alone    0    0.00 %  rewritten, each by itself
         trial    0    0.00 %  mended by trial
@@ -215,7 +217,7 @@ fn one_store_as_people_read_it() {
     let mut wear = Wear::new();
     assert_eq!(wear.add_result(&[3; 1_024], 0), Ok(()));
     let expected = "\
-1 store, 1,024 lines, 100.00 % rebuilt
+1 store, 1,024 lines, 1,024 rebuilt (100.00 %)
 lines   clean        0    0.00 %  correct as found
         alone        0    0.00 %  rewritten, each by itself
         trial        0    0.00 %  mended by trial
@@ -234,7 +236,7 @@ fn a_full_report_as_people_read_it() {
     let clean = lines - rebuilt - 1;
     let wear = wear([1_000_000, lines, clean, 0, 1, rebuilt, 0, 999_999, 0, 1]);
     let expected = "\
-1,000,000 stores, 4,194,304,000,000 lines, 25.00 % rebuilt
+1,000,000 stores, 4,194,304,000,000 lines, 1,048,576,000,000 rebuilt (25.00 %)
 lines   clean    3,145,727,999,999   75.00 %  correct as found
         alone                    0    0.00 %  rewritten, each by itself
         trial                    1   <0.01 %  mended by trial
@@ -244,6 +246,24 @@ stores  done               999,999  >99.99 %  every line is whole
         left                     0    0.00 %  faulty lines are left
         differs                  1   <0.01 %  lines and tables differ: trust no line";
     assert_eq!(wear.to_string(), expected);
+}
+
+/// Two decimals don't tell lightly worn stores apart; the count does.
+#[test]
+fn lightly_worn_stores_as_people_read_them() {
+    for (rebuilt, expected) in [
+        (0, "0 rebuilt (0.00 %)"),
+        (1, "1 rebuilt (<0.01 %)"),
+        (2_621, "2,621 rebuilt (<0.01 %)"),
+        (2_622, "2,622 rebuilt (0.01 %)"),
+        (8_000, "8,000 rebuilt (0.02 %)"),
+        (12_000, "12,000 rebuilt (0.02 %)"),
+    ] {
+        let clean = 52_428_800 - rebuilt;
+        let shown = wear([200, 52_428_800, clean, 0, 0, rebuilt, 0, 200, 0, 0]).to_string();
+        let expected = format!("200 stores, 52,428,800 lines, {expected}\n");
+        assert!(shown.starts_with(&expected), "{shown}");
+    }
 }
 
 #[test]
@@ -266,12 +286,18 @@ fn percent_of_parts() {
         (19_999, 20_000, ">99.99 %"),
         (u64::MAX - 1, u64::MAX, ">99.99 %"),
         (u64::MAX, u64::MAX, "100.00 %"),
+        // More than the whole is all of it.
+        (8, 7, "100.00 %"),
+        (100_001, 100_000, "100.00 %"),
+        (u64::MAX, 1, "100.00 %"),
+        (1, 0, "0.00 %"),
+        (u64::MAX, 0, "0.00 %"),
     ] {
         let shown = Percent::of(part, whole).to_string();
         assert_eq!(shown, expected, "{part} of {whole}");
     }
     assert_eq!(format!("[{:>9}]", Percent::of(1, 8)), "[  12.50 %]");
-    let share = wear(report(1, 8, 1)).rebuilt_share();
+    let share = wear(of_share((1, 8))).rebuilt_share();
     assert_eq!(format!("[{share:<9}]"), "[12.50 %  ]");
 }
 
@@ -280,10 +306,10 @@ fn the_most_worn_units_come_first() {
     // Shares 0, 1/3, 1/4, 1/3 and 1; what is equal keeps its order.
     let [none, third, quarter, sixth, all] = [
         EMPTY,
-        report(1, 9, 3),
-        report(2, 8, 2),
-        report(1, 6, 2),
-        report(1, 4, 4),
+        of_share((3, 9)),
+        of_share((2, 8)),
+        of_share((2, 6)),
+        of_share((4, 4)),
     ]
     .map(wear);
     let mut units = [none, third, quarter, sixth, all];
