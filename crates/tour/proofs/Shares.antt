@@ -8,7 +8,7 @@ use native.Mathlib.Omega.{arith}
 use borrow.Author.Tests.{ltb-true, ltb-false, lt-ltb, le-ltb, eqb-true, eqb-false, eq-eqb, ne-eqb}
 use lib.Dec.{eqb, ltb}
 use Rattle.tour.specs.Share.{orderOf, outOf, shareOrder}
-use Rattle.tour.specs.Promises.{IsReport, HasShare, SharesCompared, OrdersReports}
+use Rattle.tour.specs.Promises.{IsReport, HasShare, OrderTells, SharesCompared, OrdersReports}
 use Rattle.tour.specs.declared.Wear as Declared
 
 -- ---- the order of two numbers
@@ -63,6 +63,14 @@ module _ (x y : ℕ) where
       go (same f) = omega (arith, e, order-same x y f)
       go (less h) = omega (arith, e, order-less x y h)
       go (more h) = h
+
+  order-tells : OrderTells (orderOf x y) x y
+  order-tells =
+      record {
+        equal = (tells-same, order-same x y);
+        smaller = (tells-less, order-less x y);
+        greater = (tells-more, order-more x y);
+      }
 
   order-total : (orderOf x y ≡ 0) ⊎ ((orderOf x y ≡ 1) ⊎ (orderOf x y ≡ 2))
   order-total = go (ordered x y)
@@ -161,7 +169,7 @@ shares-compared a b ra rb =
     let some = one-le-mul (out-least a) (out-least b) in
     record {
       agrees = λ x y m h k.
-          cross p q r s x y m (out-least a) (out-least b) (h .some) (share-is a x m ra h) (share-is b y m rb k);
+          rw (cross p q r s x y m (out-least a) (out-least b) (h .some) (share-is a x m ra h) (share-is b y m rb k)) (order-tells x y);
       common = (
         q * s,
         p * s,

@@ -12,7 +12,7 @@ use Rattle.demands.specs.Demands.{Rectangle, count, repairOf}
 use Rattle.results.specs.Marks.{total}
 use Rattle.tour.specs.Wear.{Result, linesSeen, wearOf, empty}
 use Rattle.tour.specs.Adding.{mostStores, answersTotal, isResult, addStore, addAll, takenIn}
-use Rattle.tour.specs.Share.{orderOf, shareOrder, compareShares}
+use Rattle.tour.specs.Share.{shareOrder, compareShares}
 use Rattle.tour.specs.Numbers.{numbersOf, wearIn, addNumbers, compareNumbers}
 use Rattle.tour.specs.declared.Wear as Declared
 
@@ -39,7 +39,7 @@ pub record CountedFrom (results : List Result) : Type 0 where
   -- and these are the first million of those that are results at all
   pub taken : takenIn empty results ≡ take mostStores (select isResult results)
   pub lines : addAll empty results .lines ≡ linesSeen (takenIn empty results)
-  -- its marks add up to its lines and its answers to its stores, and no addition or comparison is refused for it, but for its million stores
+  -- its marks add up to its lines, and its answers to its stores
   pub adds : IsReport (addAll empty results)
 
 abbrev pub Counted : Type 0
@@ -76,9 +76,15 @@ pub record HasShare (w : Declared.Wear) (x m : ℕ) : Type 0 where
   pub ofLines : 1 ≤ w .lines → w .marks .rebuilt * m ≡ x * w .lines
   pub noLines : w .lines ≡ 0 → x ≡ 0
 
+-- the order that is given: 0 equal, 1 the first is smaller, 2 it is greater
+pub record OrderTells (order x y : ℕ) : Type 0 where
+  pub equal : (order ≡ 0) ↔ (x ≡ y)
+  pub smaller : (order ≡ 1) ↔ (x < y)
+  pub greater : (order ≡ 2) ↔ (y < x)
+
 -- two shares out of one number, and the order is theirs; there is always such a number
 pub record OrderOfFractions (a b : Declared.Wear) : Type 0 where
-  pub agrees : (x y m : ℕ) → HasShare a x m → HasShare b y m → shareOrder a b ≡ orderOf x y
+  pub agrees : (x y m : ℕ) → HasShare a x m → HasShare b y m → OrderTells (shareOrder a b) x y
   pub common : (m : ℕ) × (x : ℕ) × (y : ℕ) × (HasShare a x m) × (HasShare b y m)
 
 abbrev pub SharesCompared : Type 0
