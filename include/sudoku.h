@@ -16,12 +16,13 @@
  * - `mark`, `passes`, `number`, `step` and `order` are not null. They are returned values: every call sets them, to 0 on refusals but
  *   for three, below.
  * - Writable buffers, these returned values among them, overlap nothing else that is handed in: `row_out` is not `row_table`, nor
- *   `column_out` `column_table`, which repair reads to the end; `line` is no line of `lines` or `out`. Buffers that are only read may
- *   overlap each other.
+ *   `column_out` `column_table`, which repair reads to the end; `line` is no line of `lines` or `out`; the `marks` of a forecast are
+ *   not its `faulty`. Buffers that are only read may overlap each other.
  * - Callers of sudoku_change_line and sudoku_repair are compiled with this header. Earlier ones had fewer or other parameters: a
  *   call compiled with one of them still links, and then bytes are written to places that the caller never named.
  * - Repair needs less than 48 kB of stack (about 32 kB of it a table), and so does sudoku_read_one, which may run it; making tables
- *   needs about 110 kB, whatever the size of the rectangle; the other calls less than 2 kB.
+ *   needs about 110 kB, whatever the size of the rectangle; sudoku_forecast less than 4 kB (about 2 kB of it counts of faulty lines);
+ *   the other calls less than 2 kB.
  *
  * What a caller should know:
  * - After a refusal (any answer but 0, 11 and 12) the buffers are as they were: what stands in `out`, `marks` or the tables written
@@ -36,13 +37,17 @@
  *   more than five damaged bits. Of other lines that are left faulty, and of lines and tables that disagree (12), only repair tells.
  * - The four buffers that sudoku_read_one borrows are no result: after 0 and 11 they hold zeros, which are a valid store of empty
  *   captions. Hand in none whose content is still needed.
+ * - Where only the list of faulty lines is at hand, sudoku_forecast tells which of them rebuilding alone would leave. Lines are faulty
+ *   for it if sudoku_read_line answers 10. The marks of a repair are no such list, since lines with mark 1 read alone: those with 2, 3
+ *   and 4 were faulty.
  * - After SUDOKU_ROW_PARITY (13) or SUDOKU_COLUMN_PARITY (14), which only a change gives, repair the store: after 0 lines and tables
  *   agree, and any line can be changed. Or load that table anew. The row is tested first: with 13 the column's may be bad too.
  * - Lines and tables of zero bytes are a valid store, all lines and parity lines correct. Memory that was cleared cannot be told
  *   from a store of empty captions.
  * - A wear report is ten numbers, and the empty report is ten zeros. sudoku_wear_add counts every result that it is handed, the same
  *   one again too: call it once for each repair. A refused repair has no result, and adding its answer is refused with 15. What
- *   sudoku_read_one leaves is no result either, but would be taken for one: its marks are zeros. Add only what sudoku_repair gave.
+ *   sudoku_read_one leaves is no result either, but would be taken for one: its marks are zeros. So would the marks of a forecast. Add
+ *   only what sudoku_repair gave.
  *
  * Calls keep no state and allocate nothing, so threads may call at once, each on writable buffers of its own.
  *
@@ -119,7 +124,7 @@ enum sudoku_answer {
     SUDOKU_DIFFERS = 12        /* repair: no line is faulty, but an accepted parity line differs from the lines: trust none */
 };
 
-/* Marks: what became of a line. Reading alone gives 0, 1 or 4. */
+/* Marks: what became of a line. Reading alone gives 0, 1 or 4, a forecast 0, 3 or 4. */
 enum sudoku_mark {
     SUDOKU_MARK_CLEAN = 0,     /* correct as found (its spare bits do not count) */
     SUDOKU_MARK_REWRITTEN = 1, /* accepted, and rewritten: a bit of data or check was flipped, or Hamming bits were changed */
@@ -234,6 +239,26 @@ uint32_t sudoku_read_one(size_t rows, size_t columns, const uint8_t *lines, size
                          uint8_t *out, size_t out_len, uint8_t *marks, size_t marks_len,
                          uint8_t *row_out, size_t row_out_len, uint8_t *column_out, size_t column_out_len,
                          uint8_t *line, size_t line_len, uint8_t *mark, uint32_t *step);
+
+/*
+ * Tells what rebuilding alone would save, without any line's bytes. `faulty` has a byte for each line: 0 if the line is whole, anything
+ * else if it is faulty after the first reading. Rows and columns are visited as repair does, in as many passes as it takes, and a
+ * faulty line is rebuilt where it is the only one of its row or column. Nothing is tried, and all parity lines count as usable.
+ *
+ * Writes a mark for each line into `marks` (rows * columns bytes): 0 whole, 3 rebuilt, 4 faulty. Sets `passes`: 0 if no line is faulty,
+ * and never more than the lines that are. A pass that rebuilds nothing is the last, and counts. `faulty` stays as it is.
+ *
+ * The marks are a bound. Of a store with these faulty lines, whatever all lines hold, whose parity lines are all accepted,
+ * sudoku_repair leaves no more lines faulty than have mark 4 here, and only such lines. If no trial takes in that repair, it gives
+ * exactly these marks, but for a 1 where a whole line was rewritten, and these passes. Trials may save more lines, in more passes or
+ * fewer: the passes are no bound. Where some parity line is not accepted, repair may leave more lines faulty. Of more faulty lines the
+ * forecast leaves at least those that it leaves of fewer: a list that names lines needlessly still gives a bound.
+ *
+ * Answers: 0, also where lines stay faulty: never 11. 2; 7 if `faulty_len` or `marks_len` is not rows * columns. With both refusals
+ * `passes` is 0.
+ */
+uint32_t sudoku_forecast(size_t rows, size_t columns, const uint8_t *faulty, size_t faulty_len, uint8_t *marks, size_t marks_len,
+                         uint64_t *passes);
 
 /*
  * Takes one repair result into a wear report: `marks`, one for each line, and `answer`, as sudoku_repair has handed them over. `wear`

@@ -1,6 +1,6 @@
 /*
- * The C interface from C: samples, refusals, guard bytes, what a read of one line looks at, wear reports, and how much stack each
- * call takes. Prints what failed; the exit status is 1 if anything did.
+ * The C interface from C: samples, refusals, guard bytes, what a read of one line looks at, forecasts, wear reports, and how much stack
+ * each call takes. Prints what failed; the exit status is 1 if anything did.
  */
 #define _POSIX_C_SOURCE 200809L
 #include <limits.h>
@@ -48,6 +48,7 @@ GUARDED(out, ALL);
 GUARDED(marks, COUNT);
 GUARDED(row_out, ROWS *LINE);
 GUARDED(column_out, COLUMNS *LINE);
+GUARDED(faulty, COUNT);
 
 #define FILL(name) memset(name##_all, FILLING, sizeof name##_all)
 #define INTACT(name) \
@@ -681,6 +682,124 @@ static void one_as_repair(void)
     one_by_parity_lines(&written);
 }
 
+/* A forecast with these sides and lengths; its passes are the number, and its marks hold the filling before. */
+static uint32_t forecast_sized(size_t r, size_t c, size_t faulty_len, size_t marks_len)
+{
+    FILL(marks);
+    unset_number();
+    return sudoku_forecast(r, c, faulty, faulty_len, marks, marks_len, number);
+}
+
+/* Whether it is refused so: nothing is written, and the passes are 0. */
+static int forecast_refused(size_t r, size_t c, size_t faulty_len, size_t marks_len, uint32_t answer)
+{
+    return forecast_sized(r, c, faulty_len, marks_len) == answer && numbered(0) && UNTOUCHED(marks);
+}
+
+/* From the last refusal of the list up, then sides whose product is that of the lengths, or is in 64 bits. */
+static void forecast_refusals(void)
+{
+    static const uint8_t all_faulty[COUNT] = {1, 2, 3, 4, 128, 255};
+    const size_t half = (size_t)1 << (sizeof(size_t) * 4);
+
+    FILL(faulty);
+    memcpy(faulty, all_faulty, COUNT);
+    CHECK(forecast_refused(ROWS, COLUMNS, COUNT, COUNT - 1, SUDOKU_BUFFER));
+    CHECK(forecast_refused(ROWS, COLUMNS, COUNT, COUNT + 1, SUDOKU_BUFFER));
+    CHECK(forecast_refused(ROWS, COLUMNS, COUNT - 1, COUNT, SUDOKU_BUFFER));
+    CHECK(forecast_refused(ROWS, COLUMNS, COUNT + 1, COUNT, SUDOKU_BUFFER));
+    CHECK(forecast_refused(ROWS, COLUMNS, COUNT + 1, COUNT - 1, SUDOKU_BUFFER));
+    CHECK(forecast_refused(ROWS, COLUMNS, 0, 0, SUDOKU_BUFFER));
+    CHECK(forecast_refused(1, COLUMNS, COUNT + 1, COUNT - 1, SUDOKU_SIDES));
+    CHECK(forecast_refused(ROWS, 513, COUNT + 1, COUNT - 1, SUDOKU_SIDES));
+    CHECK(forecast_refused(1, COUNT, COUNT, COUNT, SUDOKU_SIDES) && forecast_refused(COUNT, 1, COUNT, COUNT, SUDOKU_SIDES));
+    CHECK(forecast_refused(0, 0, 0, 0, SUDOKU_SIDES) && forecast_refused(half, half, 0, 0, SUDOKU_SIDES));
+    unset_number();
+    CHECK(sudoku_forecast(ROWS, COLUMNS, NULL, 0, marks, COUNT, number) == SUDOKU_BUFFER && numbered(0) && UNTOUCHED(marks));
+    unset_number();
+    CHECK(sudoku_forecast(ROWS, COLUMNS, faulty, COUNT, NULL, 0, number) == SUDOKU_BUFFER && numbered(0));
+    unset_number();
+    CHECK(sudoku_forecast(513, 513, NULL, 0, NULL, 0, number) == SUDOKU_SIDES && numbered(0));
+    CHECK(memcmp(faulty, all_faulty, COUNT) == 0 && INTACT(faulty));
+}
+
+/* Whether the forecast of lines with this byte is these marks, which are 0 for all others, and nothing else is written. */
+static int foretells(const uint8_t *expected, uint64_t passes, uint8_t byte)
+{
+    uint8_t before[COUNT];
+
+    FILL(faulty);
+    for (size_t n = 0; n < COUNT; n++)
+        before[n] = faulty[n] = expected[n] == 0 ? 0 : byte;
+    return forecast_sized(ROWS, COLUMNS, COUNT, COUNT) == SUDOKU_DONE && numbered(passes) && memcmp(marks, expected, COUNT) == 0
+        && INTACT(marks) && memcmp(faulty, before, COUNT) == 0 && INTACT(faulty);
+}
+
+/* Hurts each line that has a mark at four places where no other line is hurt: too many for a trial beside any other. */
+static void hurt_apart(const uint8_t *expected)
+{
+    for (size_t n = 0; n < COUNT; n++)
+        if (expected[n] != 0)
+            lines[n * LINE + n] ^= 0x0F;
+}
+
+/* Whatever byte says that a line is faulty; and repair of such a store, where no trial takes, gives these marks and passes too. */
+static void forecasting(void)
+{
+    static const struct {
+        uint8_t marks[COUNT];
+        uint64_t passes;
+    } cases[] = {
+        {{0, 0, 0, 0, 0, 0}, 0},
+        {{0, 0, 0, 0, 0, 3}, 1},
+        /* Columns rebuild a row; of two in each column, row 1 or row 0 has to come first. */
+        {{3, 3, 3, 0, 0, 0}, 1},
+        {{3, 3, 3, 0, 3, 0}, 1},
+        /* The ends are alone in their columns, the middle in its rows, and rows come first: a second pass. */
+        {{3, 3, 0, 0, 3, 3}, 2},
+        /* A ring: the first pass finds nothing to rebuild, and counts. With a line beside it that a column rebuilds it is the second. */
+        {{4, 4, 0, 4, 4, 0}, 1},
+        {{4, 0, 4, 4, 3, 4}, 2},
+        {{4, 4, 4, 4, 4, 4}, 1},
+    };
+    static struct store written;
+
+    keep(&written);
+    for (size_t i = 0; i < sizeof cases / sizeof cases[0]; i++) {
+        const uint8_t *expected = cases[i].marks;
+        unsigned right_bytes = 0;
+
+        for (unsigned byte = 1; byte < 256; byte++)
+            right_bytes += foretells(expected, cases[i].passes, (uint8_t)byte) ? 1 : 0;
+        CHECK(right_bytes == 255);
+        hurt_apart(expected);
+        CHECK(repairs(memchr(expected, SUDOKU_MARK_FAULTY, COUNT) == NULL ? SUDOKU_DONE : SUDOKU_LEFT, cases[i].passes));
+        CHECK(memcmp(marks, expected, COUNT) == 0);
+        put_back(&written);
+    }
+}
+
+/* Trials save what the forecast leaves; and a line is left that it saves, where its row and its column are unusable. */
+static void forecast_bounds(void)
+{
+    static const uint8_t ring[COUNT] = {4, 4, 0, 4, 4, 0}, tried[COUNT] = {2, 2, 0, 2, 2, 0};
+    static const uint8_t one[COUNT] = {0, 3, 0, 0, 0, 0}, left[COUNT] = {0, 4, 0, 0, 0, 0};
+    static struct store written;
+
+    keep(&written);
+    lines[0] ^= 3;
+    lines[LINE] ^= 12;
+    lines[3 * LINE] ^= 3;
+    lines[4 * LINE] ^= 12;
+    CHECK(repairs(SUDOKU_DONE, 1) && memcmp(marks, tried, COUNT) == 0 && foretells(ring, 1, 1));
+    put_back(&written);
+    lines[LINE] ^= 3;
+    rows[0] ^= 3;
+    columns[LINE] ^= 3;
+    CHECK(repairs(SUDOKU_LEFT, 1) && memcmp(marks, left, COUNT) == 0 && foretells(one, 1, 1));
+    put_back(&written);
+}
+
 /* Memory of whole pages, to be hidden or mapped twice: that of a file without a name. */
 static FILE *file_of(size_t bytes)
 {
@@ -777,6 +896,7 @@ enum { SIDE = SUDOKU_GREATEST_SIDE, BIG = SIDE * SIDE };
 static uint8_t big_lines[BIG * LINE], big_rows[SIDE * LINE], big_columns[SIDE * LINE];
 static uint8_t big_out[BIG * LINE], big_marks[BIG], big_row_out[SIDE * LINE], big_column_out[SIDE * LINE];
 static uint8_t big_written[BIG * LINE], big_rows_written[SIDE * LINE], big_columns_written[SIDE * LINE];
+static uint8_t big_faulty[BIG];
 static uint32_t big_answer;
 static uint64_t big_passes;
 
@@ -824,6 +944,11 @@ static void big_one(void)
     big_answer = sudoku_read_one(SIDE, SIDE, big_lines, sizeof big_lines, big_rows, sizeof big_rows, big_columns,
                                  sizeof big_columns, big_n, big_out, sizeof big_out, big_marks, sizeof big_marks, big_row_out,
                                  sizeof big_row_out, big_column_out, sizeof big_column_out, line, LINE, &big_mark, &big_step);
+}
+
+static void big_forecast(void)
+{
+    big_answer = sudoku_forecast(SIDE, SIDE, big_faulty, sizeof big_faulty, big_marks, sizeof big_marks, &big_passes);
 }
 
 static void put_big_back(void)
@@ -1084,8 +1209,8 @@ static void touch_deep(void)
     big_answer = array[DEEP - 1];
 }
 
-/* The stack that repair and a read of one line may take, and what they took at most. */
-enum { REPAIR_STACK = 48 * 1024 };
+/* The stack that repair and a read of one line may take, and what they took at most; and what a forecast may take. */
+enum { REPAIR_STACK = 48 * 1024, FORECAST_STACK = 4 * 1024 };
 
 static size_t repair_depth, one_depth;
 
@@ -1126,6 +1251,22 @@ static int takes_less(void (*call)(void), size_t bytes)
     return 0 < depth && depth < bytes;
 }
 
+/* The staircase of `chain_big` as a list, and all lines faulty; gives whether the forecast fits into its stack and is right. */
+static int forecast_fits(void)
+{
+    int right_marks = 1;
+
+    memset(big_faulty, 0, sizeof big_faulty);
+    for (size_t i = 0; i < SIDE; i++)
+        big_faulty[i * SIDE + i] = big_faulty[i * SIDE + i + (i + 1 < SIDE)] = 1;
+    right_marks &= takes_less(big_forecast, FORECAST_STACK) && big_answer == SUDOKU_DONE && big_passes == SIDE / 2;
+    for (size_t n = 0; n < BIG; n++)
+        right_marks &= big_marks[n] == (big_faulty[n] == 0 ? 0 : SUDOKU_MARK_REBUILT);
+    memset(big_faulty, FILLING, sizeof big_faulty);
+    return right_marks && takes_less(big_forecast, FORECAST_STACK) && big_answer == SUDOKU_DONE && big_passes == 1
+        && all_equal(big_marks, sizeof big_marks, SUDOKU_MARK_FAULTY);
+}
+
 /* What all calls take that no repair is part of. */
 static void other_depths(void)
 {
@@ -1133,6 +1274,7 @@ static void other_depths(void)
     CHECK(takes_less(big_change, 2 * 1024) && big_answer == SUDOKU_DONE);
     CHECK(takes_less(read_alone, 2 * 1024) && big_answer == SUDOKU_DONE);
     CHECK(takes_less(write_one, 2 * 1024) && big_answer == SUDOKU_DONE);
+    CHECK(forecast_fits());
     CHECK(takes_less(add_big, 2 * 1024) && big_answer == SUDOKU_DONE);
     CHECK(takes_less(compare_big, 2 * 1024) && big_answer == SUDOKU_DONE);
 }
@@ -1341,6 +1483,9 @@ int main(void)
     one_of_four();
     one_as_repair();
     one_looks_at();
+    forecast_refusals();
+    forecasting();
+    forecast_bounds();
     wear_adding();
     wear_refusals();
     wear_limits();

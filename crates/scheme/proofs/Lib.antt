@@ -24,4 +24,6 @@ pub mod Mends
 pub mod Pair
 pub mod ExactReturn
 pub mod NotAlike
+pub mod Within
+pub mod Untried
 pub mod Example

@@ -64,16 +64,21 @@ lines-find read n ps s (m ∷ ns) h faulty found =
     go false e (inl i) rest = absurd (eqb-false _ _ e i)
     go false e (inr i) rest = rest (getD-set-other s m n _ _ (eqb-false _ _ e)) i
 
+pub only-mended : (read : Reading) (g : Group) (s : State) (n : ℕ) → faultyOf s (g .members) ≡ n ∷ []
+    → isFaulty (cellAt (visit read g s) n) ≡ false
+unfolding visit trial settle rebuild
+only-mended read g s n alone = rw alone (rw alone (put-accepted s n _ faulty refl))
+  where
+    faulty : isFaulty (cellAt s n) ≡ true
+    faulty = selected (λ m. isFaulty (cellAt s m)) (g .members) n (rw alone (inl refl)) .1
+
 module _ (read : Reading) (g : Group) (s : State) (n : ℕ) (holds : n ∈ g .members) (faulty : isFaulty (cellAt s n) ≡ true) where
   pub alone-mended : Rising (g .members) → ((m : ℕ) → m ∈ g .members → isFaulty (cellAt s m) ≡ true → m ≡ n)
       → isFaulty (cellAt (visit read g s) n) ≡ false
-  unfolding visit trial settle rebuild
-  alone-mended r only = rw alone (rw alone (put-accepted s n _ faulty refl))
-    where
-      alone : faultyOf s (g .members) ≡ n ∷ []
-      alone =
-          only-one n (faultyOf s (g .members)) (rising-select _ (g .members) r) (selects _ (g .members) n holds faulty)
-          (λ m i. only m (selected _ (g .members) m i .0) (selected _ (g .members) m i .1))
+  alone-mended r only =
+      only-mended read g s n
+      (only-one n (faultyOf s (g .members)) (rising-select _ (g .members) r) (selects _ (g .members) n holds faulty)
+      (λ m i. only m (selected _ (g .members) m i .0) (selected _ (g .members) m i .1)))
 
   pub tried-mended : (p : ℕ) → triable g s ≡ true → p ∈ mismatch g s → isFaulty (read n (flip p (lineAt s n))) ≡ false
       → isFaulty (cellAt (visit read g s) n) ≡ false

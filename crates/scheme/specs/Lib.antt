@@ -1,5 +1,5 @@
--- The SuDoku steps as document 01 makes them exact: read Layer, then Visit, Repair, Parity, Sound, Marks, Stays, Readings, OneLine, and
--- last Demand3. Case is a worked case.
+-- The SuDoku steps as document 01 makes them exact: read Layer, then Visit, Repair, Parity, Sound, Marks, Stays, Readings, OneLine,
+-- Demand3, and last Forecast. Case is a worked case.
 pub mod Layer
 pub mod Visit
 pub mod Repair
@@ -10,4 +10,5 @@ pub mod Stays
 pub mod Readings
 pub mod OneLine
 pub mod Demand3
+pub mod Forecast
 pub mod Case

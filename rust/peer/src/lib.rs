@@ -1,9 +1,9 @@
 //! The caption store's line code and repair, as fast as safe Rust for any
 //! x86-64 makes them: the measure that the proved library is held against.
 //!
-//! The rules are document 01's, with requests of document 02, and of
-//! Q-5 what the library is measured by: a count of marks, and a comparison of two
-//! wear reports. A line is nine 64-bit words: eight of data, and one with the CRC
+//! The rules are document 01's, with requests of document 02,
+//! and of Q-5 what the library is measured by: a count of marks, and a comparison
+//! of two wear reports. A line is nine 64-bit words: eight of data, and one with the CRC
 //! in bits 0 to 30 and the Hamming bits from bit 32. The CRC goes by tables,
 //! sixteen bytes at a time; the Hamming bits by moving places to their positions,
 //! a word at a time, and folding. Repair reads every parity line and every line
@@ -11,11 +11,13 @@
 //! then on looks only at groups in which something changed.
 
 mod code;
+mod forecast;
 mod rectangle;
 pub mod wear;
 
 use code::Words;
 
+pub use forecast::forecast;
 pub use rectangle::{Out, Repair, make_tables, repair};
 
 const LINE_BYTES: usize = 70;

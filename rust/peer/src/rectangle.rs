@@ -3,7 +3,7 @@
 use crate::code::{self, Flip, Trouble, Words, ZERO};
 use crate::{LINE_BYTES, answer, mark};
 
-fn sides_fit(rows: usize, columns: usize) -> bool {
+pub(crate) fn sides_fit(rows: usize, columns: usize) -> bool {
     (2..=512).contains(&rows) && (2..=512).contains(&columns)
 }
 

@@ -5,6 +5,7 @@
 //! at shared places, in chains that open one line at a time, as correct lines
 //! that aren't the ones written.
 
+pub mod forecast;
 pub mod wear;
 
 use crate::line::{self, SPARE};
@@ -82,6 +83,11 @@ impl Store {
     /// How many lines there are.
     pub fn count(&self) -> usize {
         self.rows * self.columns
+    }
+
+    /// The rows and the columns.
+    pub fn sides(&self) -> (usize, usize) {
+        (self.rows, self.columns)
     }
 
     /// The bytes of line n; none if there is no such line.
@@ -391,7 +397,7 @@ pub fn hurt(random: &mut Random, store: &mut Store, way: Damage) {
         }
         Damage::NearSix => {
             for _ in 0..random.between(1, 3) {
-                let mut group = any_group(random, store);
+                let mut group = any_group(random, store.sides());
                 random.shuffle(&mut group);
                 for (i, &n) in group.iter().take(random.between(2, 3)).enumerate() {
                     let count = if i == 0 { 2 } else { random.between(2, 5) };
@@ -401,35 +407,15 @@ pub fn hurt(random: &mut Random, store: &mut Store, way: Damage) {
         }
         Damage::OpenChain => {
             let by_rows = random.once_in(2);
-            let chain = chain(random, store, by_rows);
+            let chain = chain(random, store.sides(), by_rows);
             hurt_alike(random, store, &chain);
         }
         Damage::ChainToRing => {
-            let mut hurt = chain(random, store, true);
-            if let [.., before, last] = hurt[..] {
-                // The last two share a row; two lines of a free row, in their
-                // columns, close a ring.
-                let columns = store.columns;
-                let free = |row: &usize| hurt.iter().all(|n| n / columns != *row);
-                if let Some(row) = (0..store.rows).find(free) {
-                    hurt.push(row * columns + before % columns);
-                    hurt.push(row * columns + last % columns);
-                }
-            }
+            let hurt = chain_to_ring(random, store.sides());
             hurt_alike(random, store, &hurt);
         }
         Damage::Ring => {
-            let mut rows: Vec<usize> = (0..store.rows).collect();
-            let mut columns: Vec<usize> = (0..store.columns).collect();
-            random.shuffle(&mut rows);
-            random.shuffle(&mut columns);
-            let most = store.rows.min(store.columns);
-            let size = random.between(2.min(most), most.min(6));
-            let mut ring = Vec::new();
-            for i in 0..size {
-                ring.push(rows[i] * store.columns + columns[i]);
-                ring.push(rows[i] * store.columns + columns[(i + 1) % size]);
-            }
+            let ring = ring(random, store.sides());
             hurt_alike(random, store, &ring);
         }
         Damage::Foreign => {
@@ -447,7 +433,7 @@ pub fn hurt(random: &mut Random, store: &mut Store, way: Damage) {
             }
         }
         Damage::Cancelling => {
-            let mut group = any_group(random, store);
+            let mut group = any_group(random, store.sides());
             random.shuffle(&mut group);
             let change = correct_line(random);
             for &n in group.iter().take(2) {
@@ -558,8 +544,7 @@ fn lose_parity(random: &mut Random, store: &mut Store) {
 }
 
 /// The lines of a drawn row or column.
-fn any_group(random: &mut Random, store: &Store) -> Vec<usize> {
-    let (rows, columns) = (store.rows, store.columns);
+fn any_group(random: &mut Random, (rows, columns): (usize, usize)) -> Vec<usize> {
     if random.once_in(2) {
         let row = random.below(rows);
         (0..columns).map(|column| row * columns + column).collect()
@@ -571,7 +556,7 @@ fn any_group(random: &mut Random, store: &Store) -> Vec<usize> {
 
 /// Some lines of a drawn row or column.
 fn part_of_group(random: &mut Random, store: &Store) -> Vec<usize> {
-    let mut group = any_group(random, store);
+    let mut group = any_group(random, store.sides());
     random.shuffle(&mut group);
     let count = random.between(1, group.len().min(5));
     group.truncate(count);
@@ -593,17 +578,23 @@ fn parity_lines(store: &mut Store) -> impl Iterator<Item = &mut [u8]> {
     of_rows.chain(store.column_table.chunks_exact_mut(LINE_BYTES))
 }
 
+/// All rows and all columns of these sides, each in a drawn order.
+fn mixed(random: &mut Random, (rows, columns): (usize, usize)) -> (Vec<usize>, Vec<usize>) {
+    let mut rows: Vec<usize> = (0..rows).collect();
+    let mut columns: Vec<usize> = (0..columns).collect();
+    random.shuffle(&mut rows);
+    random.shuffle(&mut columns);
+    (rows, columns)
+}
+
 /// Lines of which each shares its row and its column with the one before and
 /// the one after, by turns; rows and columns come in drawn order.
 ///
 /// With `by_rows` the first two share a row, and so do the last two; else they
 /// share a column. Some row and some column stay free.
-fn chain(random: &mut Random, store: &Store, by_rows: bool) -> Vec<usize> {
-    let mut rows: Vec<usize> = (0..store.rows).collect();
-    let mut columns: Vec<usize> = (0..store.columns).collect();
-    random.shuffle(&mut rows);
-    random.shuffle(&mut columns);
-    let most = store.rows.min(store.columns).saturating_sub(1);
+fn chain(random: &mut Random, sides: (usize, usize), by_rows: bool) -> Vec<usize> {
+    let (rows, columns) = mixed(random, sides);
+    let most = rows.len().min(columns.len()).saturating_sub(1);
     let length = if random.once_in(2) {
         most
     } else {
@@ -611,13 +602,41 @@ fn chain(random: &mut Random, store: &Store, by_rows: bool) -> Vec<usize> {
     };
     let mut chain = Vec::new();
     for i in 0..length {
-        let here = rows[i] * store.columns + columns[i];
-        let across = rows[i] * store.columns + columns[i + 1];
-        let along = rows[i + 1] * store.columns + columns[i];
+        let here = rows[i] * columns.len() + columns[i];
+        let across = rows[i] * columns.len() + columns[i + 1];
+        let along = rows[i + 1] * columns.len() + columns[i];
         chain.push(here);
         chain.push(if by_rows { across } else { along });
     }
     chain
+}
+
+/// The same, but its end runs into a ring.
+fn chain_to_ring(random: &mut Random, (rows, columns): (usize, usize)) -> Vec<usize> {
+    let mut lines = chain(random, (rows, columns), true);
+    if let [.., before, last] = lines[..] {
+        // The last two share a row; two lines of a free row, in their columns,
+        // close a ring.
+        let free = |row: &usize| lines.iter().all(|n| n / columns != *row);
+        if let Some(row) = (0..rows).find(free) {
+            lines.push(row * columns + before % columns);
+            lines.push(row * columns + last % columns);
+        }
+    }
+    lines
+}
+
+/// Four or more lines in a ring: two in each of two to six rows and columns.
+fn ring(random: &mut Random, sides: (usize, usize)) -> Vec<usize> {
+    let (rows, columns) = mixed(random, sides);
+    let most = rows.len().min(columns.len());
+    let size = random.between(2.min(most), most.min(6));
+    let mut ring = Vec::new();
+    for i in 0..size {
+        ring.push(rows[i] * columns.len() + columns[i]);
+        ring.push(rows[i] * columns.len() + columns[(i + 1) % size]);
+    }
+    ring
 }
 
 /// Hurts these lines at the same two to five places.

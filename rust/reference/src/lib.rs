@@ -1,5 +1,5 @@
 //! A second implementation of the caption store, written from its rules alone:
-//! document 01, with requests of document 02.
+//! document 01, with requests of document 02.
 //!
 //! It is made to be read beside that document, not to be fast: a line is a
 //! row of 553 truth values, a check is a long division, and repair follows
@@ -15,12 +15,13 @@
 //! | "Repair", as Q-3 changes it | [`repair`](mod@repair) |
 //! | Request Q-4, one line wanted | [`lookup`] |
 //! | Request Q-5, wear of a whole tour | [`wear`] |
+//! | Request Q-6, what rebuilding alone would save | [`forecast`](mod@forecast) |
 //! | "Store file" | [`file`](mod@file) |
 //! | "Turned back, in checking order", as change it | [`answer`] |
 //! | The marks, as Q-1 changes them | [`mark`] |
 //!
-//! [`random`] and [`draw`] make inputs for tests: stores, damage, files and wear
-//! reports, each the same again for the same seed.
+//! [`random`] and [`draw`] make inputs for tests: stores, damage, files, wear
+//! reports and patterns of faulty lines, each the same again for the same seed.
 //!
 //! The entry points take slices of any length and never panic on them.
 //! What they write goes into the buffers lent to them; after a refusal, which
@@ -50,6 +51,7 @@
 pub mod code;
 pub mod draw;
 pub mod file;
+pub mod forecast;
 pub mod hamming;
 pub mod line;
 pub mod lookup;
@@ -60,6 +62,7 @@ pub mod repair;
 pub mod wear;
 
 pub use file::{StoreFile, check_file, storecheck};
+pub use forecast::{Forecast, forecast};
 pub use line::{ReadLine, read_line, write_line};
 pub use lookup::{One, read_one};
 pub use rectangle::{Change, change_line, make_tables};

@@ -83,6 +83,15 @@ mod declared {
             mark: *mut u8,
             step: *mut u32,
         ) -> u32;
+        pub fn sudoku_forecast(
+            rows: usize,
+            columns: usize,
+            faulty: *const u8,
+            faulty_len: usize,
+            marks: *mut u8,
+            marks_len: usize,
+            passes: *mut u64,
+        ) -> u32;
         pub fn sudoku_wear_add(
             wear: *mut u64,
             wear_len: usize,
@@ -273,6 +282,25 @@ pub fn read_one(
         )
     };
     (answer, mark, step)
+}
+
+/// Works out what rebuilding alone would make of a list of faulty lines: `faulty`
+/// has a byte for each line, 0 if it is whole. Gives the answer and the passes.
+pub fn forecast(rows: usize, columns: usize, faulty: &[u8], marks: &mut [u8]) -> (u32, u64) {
+    let mut passes = u64::MAX;
+    // SAFETY: see above.
+    let answer = unsafe {
+        declared::sudoku_forecast(
+            rows,
+            columns,
+            faulty.as_ptr(),
+            faulty.len(),
+            marks.as_mut_ptr(),
+            marks.len(),
+            &mut passes,
+        )
+    };
+    (answer, passes)
 }
 
 /// Takes the marks and the answer of one repair into a report of ten numbers;

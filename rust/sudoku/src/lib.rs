@@ -5,10 +5,11 @@
 //! [`Store`] holds rows × columns of such lines and a parity line for each row
 //! and column, and [`Store::repair`] mends damaged lines from these, and the
 //! parity lines from the lines. [`Store::read_one`] gives one line as repair
-//! would, mostly without repairing the rest. A [`Wear`] report adds up what the
-//! repairs of many stores found. The work is done by the static library
-//! `libcapi.a`, whose functions are proved to follow the store's rules; this
-//! crate is a safe way to call it.
+//! would, mostly without repairing the rest. [`forecast()`] tells from the numbers
+//! of the faulty lines alone which captions would be lost. A [`Wear`] report adds
+//! up what the repairs of many stores found. The work is done by the static
+//! library `libcapi.a`, whose functions are proved to follow the store's rules;
+//! this crate is a safe way to call it.
 //!
 //! Nothing here panics on bad input: what is refused comes back as an
 //! [`Answer`]. Calls keep no state, so threads may call at once; repair and a
@@ -16,7 +17,7 @@
 //! about 110 kB.
 //!
 //! ```
-//! use sudoku::{Mark, Store, Wear};
+//! use sudoku::{Mark, Store, Wear, forecast};
 //!
 //! // Four captions in two rows and two columns.
 //! let captions = [[b'a'; 64], [b'b'; 64], [b'c'; 64], [b'd'; 64]];
@@ -25,6 +26,9 @@
 //! // The first two bits of line 3 turn over: it can't be read alone.
 //! store.lines_mut()[3 * sudoku::LINE_BYTES] ^= 3;
 //! assert!(store.read(3)?.is_faulty());
+//!
+//! // That line 3 is faulty is enough to know that no caption will be lost.
+//! assert!(forecast(2, 2, &[3])?.saves_all());
 //!
 //! // Repair rebuilds it from its row.
 //! let repaired = store.repair();
@@ -62,6 +66,10 @@
 //!   line stays faulty; or the table has to be loaded anew
 //!   ([`Store::row_table_mut`], [`Store::column_table_mut`]). After the first
 //!   the column's may be bad too, since the row is answered for first.
+//! - A [`Forecast`] is a bound: of a store with these faulty lines repair leaves
+//!   none faulty but those that the forecast leaves, and may mend some of them by
+//!   trial. That holds where all parity lines are accepted; where some aren't,
+//!   repair may leave more. The passes of a forecast are no bound.
 //! - A [`Wear`] report counts every result that it is handed, the same one again
 //!   too. Shares of rebuilt lines are compared exactly ([`Wear::rebuilt_share`]);
 //!   in percent, two that differ may look alike.
@@ -75,11 +83,13 @@
 
 mod answer;
 pub mod c;
+mod forecast;
 mod line;
 mod store;
 mod wear;
 
 pub use answer::{Answer, Mark, Step};
+pub use forecast::{Forecast, forecast};
 pub use line::{Read, read_line, write_line};
 pub use store::{One, Repaired, Store};
 pub use wear::{Percent, Share, TextError, Wear};
@@ -95,3 +105,12 @@ pub const LEAST_SIDE: usize = 2;
 
 /// The greatest number of rows or columns.
 pub const GREATEST_SIDE: usize = 512;
+
+/// How many lines a store of these sides has, or [`Answer::Sides`].
+fn count_of(rows: usize, columns: usize) -> Result<usize, Answer> {
+    let sides = LEAST_SIDE..=GREATEST_SIDE;
+    if !sides.contains(&rows) || !sides.contains(&columns) {
+        return Err(Answer::Sides);
+    }
+    Ok(rows * columns)
+}

@@ -1,9 +1,6 @@
 //! A store that owns its lines and both parity tables.
 
-use crate::{
-    Answer, DATA_BYTES, GREATEST_SIDE, LEAST_SIDE, LINE_BYTES, Mark, Read, Step, c, read_line,
-    write_line,
-};
+use crate::{Answer, DATA_BYTES, LINE_BYTES, Mark, Read, Step, c, count_of, read_line, write_line};
 
 /// Rows × columns of lines, and a parity line for each row and each column.
 ///
@@ -89,15 +86,12 @@ impl Store {
     ///
     /// [`Answer::Sides`] if rows or columns lie outside 2 to 512.
     pub fn new(rows: usize, columns: usize) -> Result<Store, Answer> {
-        let sides = LEAST_SIDE..=GREATEST_SIDE;
-        if !sides.contains(&rows) || !sides.contains(&columns) {
-            return Err(Answer::Sides);
-        }
+        let count = count_of(rows, columns)?;
         // The line of zero data is zero, and so are its parity lines.
         Ok(Store {
             rows,
             columns,
-            lines: vec![0; rows * columns * LINE_BYTES],
+            lines: vec![0; count * LINE_BYTES],
             row_table: vec![0; rows * LINE_BYTES],
             column_table: vec![0; columns * LINE_BYTES],
         })

@@ -2,7 +2,7 @@
 
 use sudoku::c::Out;
 
-/// The eight entry points over slices; each gives its answer first.
+/// The nine entry points over slices; each gives its answer first.
 pub trait Interface {
     /// What failures are told by.
     fn name(&self) -> &'static str;
@@ -60,6 +60,9 @@ pub trait Interface {
         work: Out,
         line: &mut [u8],
     ) -> (u32, u8, u32);
+
+    /// Works out what rebuilding alone would save; gives the passes too.
+    fn forecast(&self, rows: usize, columns: usize, faulty: &[u8], marks: &mut [u8]) -> (u32, u64);
 
     /// Takes a repair result into a wear report.
     fn wear_add(&self, wear: &mut [u64], marks: &[u8], answer: u32) -> u32;
@@ -137,6 +140,10 @@ impl Interface for Library {
         line: &mut [u8],
     ) -> (u32, u8, u32) {
         sudoku::c::read_one(rows, columns, lines, row_table, column_table, n, work, line)
+    }
+
+    fn forecast(&self, rows: usize, columns: usize, faulty: &[u8], marks: &mut [u8]) -> (u32, u64) {
+        sudoku::c::forecast(rows, columns, faulty, marks)
     }
 
     fn wear_add(&self, wear: &mut [u64], marks: &[u8], answer: u32) -> u32 {
@@ -218,6 +225,11 @@ impl Interface for Reference {
         let given =
             reference::read_one(rows, columns, lines, row_table, column_table, n, work, line);
         (given.answer, given.mark, given.step)
+    }
+
+    fn forecast(&self, rows: usize, columns: usize, faulty: &[u8], marks: &mut [u8]) -> (u32, u64) {
+        let given = reference::forecast(rows, columns, faulty, marks);
+        (given.answer, given.passes)
     }
 
     fn wear_add(&self, wear: &mut [u64], marks: &[u8], answer: u32) -> u32 {

@@ -2,6 +2,7 @@
 //! interface, buffers with guards, and the comparison of one call.
 
 mod compare;
+pub mod forecast;
 mod guard;
 mod interface;
 pub mod wear;

@@ -34,7 +34,7 @@ fn expect_parity(given: &Outcome, written: &Store, found: &Store) {
 }
 
 /// Whether some parity line of a store is faulty.
-fn has_unusable(store: &Store) -> bool {
+pub fn has_unusable(store: &Store) -> bool {
     let tables = [&store.row_table[..], &store.column_table].concat();
     let mut parity = tables.chunks(LINE_BYTES);
     parity.any(|parity| samples::read(&Library, parity).2 != 0)

@@ -1,5 +1,5 @@
 //! The library against document 01's samples, against the words of requests Q-1
-//! to Q-5 and against the second implementation. All tests are one binary, so
+//! to Q-6 and against the second implementation. All tests are one binary, so
 //! that it can be run once more under a memory checker.
 //!
 //! `SUDOKU_PERCENT` sets how many cases are drawn, in percent of the usual
@@ -9,9 +9,12 @@
 mod crate_over_c;
 mod demands;
 mod differential;
+mod forecast;
+mod forecast_type;
 mod lookup;
 mod marks;
 mod parity;
+mod rebuilding;
 mod samples;
 mod storecheck;
 mod tours;

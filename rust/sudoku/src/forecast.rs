@@ -1,0 +1,94 @@
+//! What rebuilding alone would save of a store, from its list of faulty lines.
+
+use crate::{Answer, Mark, c, count_of};
+
+/// What rebuilding alone would make of some faulty lines: which of them it saves,
+/// which captions are lost, and in how many passes.
+///
+/// The lost lines are a bound. Of a store in which just these lines can't be read
+/// alone, and whose parity lines are all accepted, [`Store::repair`] leaves none
+/// faulty but lost ones, whatever the lines hold; it may save some of them by
+/// trial. Where no trial takes, it gives exactly these marks, but for
+/// [`Mark::Rewritten`] where a whole line was rewritten, and these passes. Where
+/// some parity line isn't accepted, repair may leave more.
+///
+/// [`Store::repair`]: crate::Store::repair
+#[derive(Clone, Debug, PartialEq, Eq)]
+pub struct Forecast {
+    /// A mark for each line: [`Mark::Clean`] if the list doesn't name it,
+    /// otherwise [`Mark::Rebuilt`] or [`Mark::Faulty`].
+    pub marks: Vec<Mark>,
+    /// The passes over rows and columns: 0 if no line is faulty. One that
+    /// rebuilds nothing is the last, and counts. With trials repair may take more
+    /// of them or fewer.
+    pub passes: u64,
+}
+
+impl Forecast {
+    /// The numbers of the lines that stay faulty, rising.
+    pub fn lost(&self) -> Vec<usize> {
+        let lines = self.marks.iter().enumerate();
+        let lost = lines.filter(|&(_, &mark)| mark == Mark::Faulty);
+        lost.map(|(n, _)| n).collect()
+    }
+
+    /// Whether no line stays faulty.
+    ///
+    /// ```
+    /// use sudoku::forecast;
+    ///
+    /// // Three corners of a square, and all four.
+    /// assert!(forecast(9, 9, &[10, 15, 64])?.saves_all());
+    /// assert!(!forecast(9, 9, &[10, 15, 64, 69])?.saves_all());
+    /// # Ok::<(), sudoku::Answer>(())
+    /// ```
+    pub fn saves_all(&self) -> bool {
+        !self.marks.contains(&Mark::Faulty)
+    }
+}
+
+/// Works out what rebuilding alone would save of a store with these faulty lines,
+/// without any line's bytes: no trial takes, and all parity lines are usable.
+///
+/// `faulty` has the numbers of the lines that can't be read alone, in any order;
+/// one that stands there twice counts once. A longer list loses all that a shorter
+/// one loses: where it names lines needlessly, it still gives a bound.
+///
+/// ```
+/// use sudoku::{Answer, Mark, forecast};
+///
+/// // A corner of three lines: a row and a column with one faulty line each open
+/// // it.
+/// let corner = forecast(3, 4, &[0, 1, 4])?;
+/// assert_eq!((corner.lost(), corner.passes), (vec![], 1));
+///
+/// // With the fourth line it is closed. Line 6 is still rebuilt by its column; a
+/// // second pass finds nothing more to do.
+/// let ring = forecast(3, 4, &[0, 1, 4, 5, 6])?;
+/// assert_eq!((ring.lost(), ring.passes), (vec![0, 1, 4, 5], 2));
+/// assert_eq!(ring.marks[6], Mark::Rebuilt);
+/// assert_eq!(ring.marks[7], Mark::Clean);
+///
+/// assert_eq!(forecast(3, 4, &[12]), Err(Answer::Number));
+/// assert_eq!(forecast(3, 513, &[]), Err(Answer::Sides));
+/// # Ok::<(), Answer>(())
+/// ```
+///
+/// # Errors
+///
+/// [`Answer::Sides`] if rows or columns lie outside 2 to 512; [`Answer::Number`]
+/// if there is no line with one of these numbers.
+pub fn forecast(rows: usize, columns: usize, faulty: &[usize]) -> Result<Forecast, Answer> {
+    let count = count_of(rows, columns)?;
+    let mut named = vec![0; count];
+    for &n in faulty {
+        *named.get_mut(n).ok_or(Answer::Number)? = 1;
+    }
+    let mut marks = vec![0; count];
+    // With these sides and lengths the answer is always 0.
+    let (_, passes) = c::forecast(rows, columns, &named, &mut marks);
+    Ok(Forecast {
+        marks: marks.into_iter().map(Mark::from_number).collect(),
+        passes,
+    })
+}
