@@ -2,6 +2,8 @@
 pub mod Walk
 pub mod Seeking
 pub mod Numbers
+pub mod Found
+pub mod Counts
 pub mod Held
 pub mod Rooms
 pub mod Added

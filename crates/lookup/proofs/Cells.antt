@@ -1,7 +1,7 @@
 -- One line of repair: what it is after the first reading, after its row's visit and at the end, and how repair hands it over.
 use mathlib.Core.Path.{_≡_, refl, sym, ap, _∙_}
 use mathlib.Core.Bool.{Bool, true, false}
-use mathlib.Core.List.{List, _∷_, _++_, map, append-assoc}
+use mathlib.Core.List.{List, _∷_, _++_, map, map-append, map-map, append-assoc}
 use Prim.Native.Nat.{ℕ, suc, _+_, _-_, _*_, _/_, _<_}
 use native.Mathlib.Nat.{zero-add}
 use native.Mathlib.Omega.{arith}
@@ -24,10 +24,9 @@ use Rattle.rectangle.specs.Refusals.{sidesFit, repairRefusal}
 use Rattle.rectangle.specs.Repair.{usedGroups, repairedBy, repaired, Buffers, handedOver}
 use Rattle.rectangle.proofs.Buffer.{length-linesIn, linesIn-at}
 use Rattle.rectangle.proofs.Groups.{sides, in-row, row-number, row-inside, row-below}
-use Rattle.rectangle.proofs.Members.{upFrom-bounds}
+use Rattle.rectangle.proofs.Members.{upFrom-bounds, upFrom-split}
 use Rattle.rectangle.proofs.Runs.{repair-runs}
 use Rattle.demands.proofs.Handed.{line-handed, mark-handed}
-use Rattle.repair.proofs.Groups.{map-map, map-append, upFrom-split}
 use Rattle.lookup.specs.Lookup.{afterRow, repairIn}
 
 -- a line after the first reading is as it reads alone

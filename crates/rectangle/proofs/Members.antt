@@ -37,6 +37,42 @@ map-same f g (n ∷ ns) h = ap₂ (λ a l. a ∷ l) (h n (inl refl)) (map-same f
 pub map-below : {A : Type 0} (f g : ℕ → A) (k : ℕ) → ((n : ℕ) → n < k → f n ≡ g n) → map f (upFrom 0 k) ≡ map g (upFrom 0 k)
 map-below f g k h = map-same f g (upFrom 0 k) (λ n i. h n (omega (arith, upFrom-bounds 0 k n i .1)))
 
+pub upFrom-split : (i m n : ℕ) → upFrom i (m + n) ≡ upFrom i m ++ upFrom (i + m) n
+upFrom-split i zero n = ap₂ upFrom (first i) (none n)
+  where
+    first : (i : ℕ) → i ≡ i + 0
+    first i = omega arith
+
+    none : (n : ℕ) → 0 + n ≡ n
+    none n = omega arith
+upFrom-split i (suc m) n =
+    ap (upFrom i) (more m n)
+    ∙ ap (λ (l : List ℕ). i ∷ l) (upFrom-split (suc i) m n ∙ ap (λ (j : ℕ). upFrom (suc i) m ++ upFrom j n) (shift i m))
+  where
+    more : (m n : ℕ) → suc m + n ≡ suc (m + n)
+    more m n = omega arith
+
+    shift : (i m : ℕ) → suc i + m ≡ i + suc m
+    shift i m = omega arith
+
+pub map-shift : {A : Type 0} (f : ℕ → A) (i n : ℕ) → map f (upFrom i n) ≡ map (λ (k : ℕ). f (i + k)) (upFrom 0 n)
+map-shift {A} f i n = from i 0 n (λ (k : ℕ). ap f (none i k))
+  where
+    none : (i k : ℕ) → i + k ≡ i + (0 + k)
+    none i k = omega arith
+
+    from : (a b n : ℕ) → ((k : ℕ) → f (a + k) ≡ f (i + (b + k))) → map f (upFrom a n) ≡ map (λ (k : ℕ). f (i + k)) (upFrom b n)
+    from a b zero h = refl
+    from a b (suc n) h =
+        ap₂ (λ (x : A) (l : List A). x ∷ l) (ap f (nought a) ∙ h 0 ∙ ap (λ (k : ℕ). f (i + k)) (sym (nought b)))
+        (from (suc a) (suc b) n (λ k. ap f (next a k) ∙ h (suc k) ∙ ap (λ (j : ℕ). f (i + j)) (sym (next b k))))
+      where
+        nought : (a : ℕ) → a ≡ a + 0
+        nought a = omega arith
+
+        next : (a k : ℕ) → suc a + k ≡ a + suc k
+        next a k = omega arith
+
 -- ---- membership in two lists
 pub in-left : {A : Type 0} (k l : List A) (a : A) → a ∈ k → a ∈ (k ++ l)
 in-left [] l a i = absurd i

@@ -2,7 +2,7 @@
 use mathlib.Core.Path.{_≡_, refl, sym, ap, ap₂, _∙_, subst}
 use mathlib.Core.Logic.{inl, inr}
 use mathlib.Core.Bool.{Bool, true, false, not, cond}
-use mathlib.Core.List.{List, [], _∷_, _++_, map}
+use mathlib.Core.List.{List, [], _∷_, _++_, map, map-map}
 use Prim.Native.Nat.{ℕ, zero, suc, _+_, _*_, _≤_, _<_}
 use native.Mathlib.Nat.{zero-add}
 use native.Mathlib.Omega.{arith}
@@ -30,7 +30,8 @@ use Rattle.groups.proofs.Numbers.{by-number, any-numbered, members-inside}
 use Rattle.groups.proofs.Held.{held-count}
 use Rattle.groups.proofs.Joined.{first-at, second-at}
 use Rattle.repair.specs.Lent.{RanPasses, Finished, Started, MarksOf, Fresh, startOf, allGroups}
-use Rattle.repair.proofs.Groups.{foundGroup, startsFrom, found-row, found-column, found-members, starts-zero, map-map, all-groups}
+use Rattle.groups.proofs.Found.{foundGroup, found-row, found-column, found-members}
+use Rattle.repair.proofs.Groups.{startsFrom, starts-zero, all-groups}
 
 -- ---- no line is read yet
 no-sum : (ns : List ℕ) → sum (lineAt []) ns ≡ []

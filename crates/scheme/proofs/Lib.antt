@@ -9,6 +9,7 @@ pub mod Written
 pub mod Grows
 pub mod Steps
 pub mod Passes
+pub mod Running
 pub mod Every
 pub mod Stays
 pub mod Readings

@@ -1,4 +1,5 @@
--- A case that tells "The mismatch .. is worked out once in a visit" from a mismatch worked out again after a trial took.
+-- Cases that tell: "The mismatch .. is worked out once in a visit" from a mismatch worked out again after a trial took, and the bound of
+-- request Q-6 from its converse.
 use mathlib.Core.Path.{_≡_}
 use mathlib.Core.Bool.{cond}
 use mathlib.Core.List.{List, [], _∷_}
@@ -8,6 +9,7 @@ use Rattle.gf2.specs.Word.{Word, zeros, weight, flip}
 use Rattle.scheme.specs.Layer.{Cell}
 use Rattle.scheme.specs.Visit.{Group}
 use Rattle.scheme.specs.Repair.{repair, marksOf}
+use Rattle.scheme.specs.Forecast.{foreseen}
 
 -- a small line code of k places: its only correct line is zero, and it takes back one damaged bit
 unfoldable pub readZero : ℕ → ℕ → Word → Cell
@@ -40,3 +42,14 @@ hurtLines =
 
 abbrev pub MismatchWorkedOutOnce : Type 0
 MismatchWorkedOutOnce = marksOf (repair (readZero 5) twoByThree hurtLines .cells) ≡ 2 ∷ 3 ∷ 3 ∷ 0 ∷ 0 ∷ 0 ∷ []
+
+-- all four lines of a 2 by 2 store are hurt, two and two alike: each takes a trial in its row, where rebuilding alone saves none
+abbrev pub twoByTwo : List Group
+twoByTwo = zeroGroup (0 ∷ 1 ∷ []) ∷ zeroGroup (2 ∷ 3 ∷ []) ∷ zeroGroup (0 ∷ 2 ∷ []) ∷ zeroGroup (1 ∷ 3 ∷ []) ∷ []
+
+abbrev pub hurtFour : List Word
+hurtFour = hurtAt (0 ∷ 1 ∷ []) ∷ hurtAt (2 ∷ 3 ∷ []) ∷ hurtAt (0 ∷ 1 ∷ []) ∷ hurtAt (2 ∷ 3 ∷ []) ∷ []
+
+pub record TrialsSaveMore : Type 0 where
+  pub repaired : marksOf (repair (readZero 5) twoByTwo hurtFour .cells) ≡ 2 ∷ 2 ∷ 2 ∷ 2 ∷ []
+  pub forecast : marksOf (foreseen twoByTwo (1 ∷ 1 ∷ 1 ∷ 1 ∷ []) .cells) ≡ 4 ∷ 4 ∷ 4 ∷ 4 ∷ []

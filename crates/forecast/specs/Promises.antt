@@ -1,0 +1,98 @@
+-- Request Q-6: what is promised of the forecast, for every rectangle and in bytes.
+use mathlib.Core.Path.{_≡_}
+use mathlib.Core.Logic.{_⊎_, _↔_}
+use mathlib.Core.Bool.{true, false, not}
+use mathlib.Core.List.{List, [], _∷_, map}
+use Prim.Native.Nat.{ℕ, _≤_, _<_, _*_}
+use lib.Dec.{eqb}
+use lib.ListN.{length, getD}
+use Rattle.scheme.specs.Visit.{Group, select}
+use Rattle.scheme.specs.Parity.{unusable}
+use Rattle.scheme.specs.Demand3.{_∈_}
+use Rattle.scheme.specs.Forecast.{asForecast}
+use Rattle.rectangle.specs.Store.{lineLayer, row, column, groups}
+use Rattle.rectangle.specs.Refusals.{acceptedAt}
+use Rattle.rectangle.specs.Repair.{Buffers, StoreRepaired, handsOver}
+use Rattle.demands.specs.Demands.{Rectangle, count, repairOf}
+use Rattle.forecast.specs.Forecast.{Forecast, forecast}
+
+-- ---- "Errors: 2 and 7, otherwise 0.", and document 01: refusals "write nothing", and their passes are 0
+pub record AnswersOnly (marks : List ℕ) (given : Forecast) : Type 0 where
+  pub answer : given .answer ∈ (0 ∷ 2 ∷ 7 ∷ [])
+  pub refused : (given .answer ≡ 0 → ⊥) → (given .marks ≡ marks) × (given .passes ≡ 0)
+
+abbrev pub ForecastAnswers : Type 0
+ForecastAnswers = (rows columns : ℕ) (pattern marks : List ℕ) → AnswersOnly marks (forecast rows columns pattern marks)
+
+-- ---- "the marks (0 for whole) and passes": a mark for each line, 0 exactly for those whole before, 3 rebuilt or 4 faulty for the others;
+-- passes are 0 exactly if none was faulty, and never more than the lines that were
+unfoldable pub faultyBytes : List ℕ → ℕ
+faultyBytes pattern = length (select (λ byte. not (eqb byte 0)) pattern)
+
+pub record Foreseen (lines : ℕ) (pattern : List ℕ) (given : Forecast) : Type 0 where
+  pub each : length (given .marks) ≡ lines
+  pub whole : (n : ℕ) → (getD (given .marks) n 0 ≡ 0) ↔ (getD pattern n 0 ≡ 0)
+  pub others : (n : ℕ) → (getD pattern n 0 ≡ 0 → ⊥) → (getD (given .marks) n 0 ≡ 3) ⊎ (getD (given .marks) n 0 ≡ 4)
+  pub none : (given .passes ≡ 0) ↔ (faultyBytes pattern ≡ 0)
+  pub most : given .passes ≤ faultyBytes pattern
+
+abbrev pub ForecastGives : Type 0
+ForecastGives =
+    (rows columns : ℕ) (pattern marks : List ℕ) → forecast rows columns pattern marks .answer ≡ 0
+    → Foreseen (rows * columns) pattern (forecast rows columns pattern marks)
+
+-- ---- "repair must leave no more lines faulty than this forecast does, and only lines that it names"
+-- the number of marks 4
+unfoldable pub faultyMarks : List ℕ → ℕ
+faultyMarks marks = length (select (λ mark. eqb mark 4) marks)
+
+pub record WithinMarks (given foreseen : List ℕ) : Type 0 where
+  pub only : (n : ℕ) → getD given n 0 ≡ 4 → getD foreseen n 0 ≡ 4
+  pub noMore : faultyMarks given ≤ faultyMarks foreseen
+
+-- "For every rectangle with those faulty lines after the first reading, and with usable parity lines"
+pub record FaultySo (r : Rectangle) (pattern : List ℕ) : Type 0 where
+  pub each : length pattern ≡ count r
+  pub whole : (n : ℕ) → n < count r → (getD pattern n 0 ≡ 0) ↔ (acceptedAt (r .lines) n ≡ true)
+  pub usable : (g : Group) → g ∈ groups (r .rows) (r .columns) (r .rowTable) (r .columnTable) → unusable lineLayer g ≡ false
+
+-- the forecast for a rectangle with those faulty lines
+abbrev pub forecastFor : Rectangle → List ℕ → List ℕ → Forecast
+forecastFor r pattern marks = forecast (r .rows) (r .columns) pattern marks
+
+-- what repair hands over, whatever it answers: 0, 11 or 12
+abbrev pub RepairWithinForecast : Type 0
+RepairWithinForecast =
+    (r : Rectangle) (b : Buffers) (pattern marks : List ℕ) → FaultySo r pattern → length marks ≡ count r
+    → handsOver (repairOf r b .answer) ≡ true → WithinMarks (repairOf r b .marks) (forecastFor r pattern marks .marks)
+
+-- ---- "that repair would give if no trial took": where no line is mended by trial, repair's marks, 1 read as 0, and its passes
+pub record AsForeseen (repaired : StoreRepaired) (foreseen : Forecast) : Type 0 where
+  pub marks : map asForecast (repaired .marks) ≡ foreseen .marks
+  pub passes : repaired .passes ≡ foreseen .passes
+
+abbrev pub ForecastIsRepair : Type 0
+ForecastIsRepair =
+    (r : Rectangle) (b : Buffers) (pattern marks : List ℕ) → FaultySo r pattern → length marks ≡ count r
+    → handsOver (repairOf r b .answer) ≡ true → ((n : ℕ) → getD (repairOf r b .marks) n 0 ≡ 2 → ⊥)
+    → AsForeseen (repairOf r b) (forecastFor r pattern marks)
+
+-- ---- the forecast of more faults leaves more faulty
+abbrev pub MoreFaultsLeaveMore : Type 0
+MoreFaultsLeaveMore =
+    (rows columns : ℕ) (fewer more marks marks′ : List ℕ) → forecast rows columns fewer marks .answer ≡ 0
+    → forecast rows columns more marks′ .answer ≡ 0 → ((n : ℕ) → getD more n 0 ≡ 0 → getD fewer n 0 ≡ 0)
+    → WithinMarks (forecast rows columns fewer marks .marks) (forecast rows columns more marks′ .marks)
+
+-- ---- it ends only when a pass rebuilds nothing: no row and no column holds exactly one of the lines left faulty
+abbrev pub faultyIn : List ℕ → List ℕ → ℕ
+faultyIn marks members = length (select (λ n. eqb (getD marks n 0) 4) members)
+
+pub record NoneAlone (rows columns : ℕ) (marks : List ℕ) : Type 0 where
+  pub eachRow : (k : ℕ) → k < rows → faultyIn marks (row columns k) ≡ 1 → ⊥
+  pub eachColumn : (k : ℕ) → k < columns → faultyIn marks (column rows columns k) ≡ 1 → ⊥
+
+abbrev pub ForecastEndsLast : Type 0
+ForecastEndsLast =
+    (rows columns : ℕ) (pattern marks : List ℕ) → forecast rows columns pattern marks .answer ≡ 0
+    → NoneAlone rows columns (forecast rows columns pattern marks .marks)
