@@ -752,10 +752,10 @@ static void forecasting(void)
     } cases[] = {
         {{0, 0, 0, 0, 0, 0}, 0},
         {{0, 0, 0, 0, 0, 3}, 1},
-        /* Columns rebuild a row; of two in each column, row 1 or row 0 has to come first. */
+        /* Columns rebuild a row. Where one of them has a second line, its own row rebuilds that one before. */
         {{3, 3, 3, 0, 0, 0}, 1},
         {{3, 3, 3, 0, 3, 0}, 1},
-        /* The ends are alone in their columns, the middle in its rows, and rows come first: a second pass. */
+        /* Columns rebuild the two ends, and rows, which come first, can do the rest in a second pass only. */
         {{3, 3, 0, 0, 3, 3}, 2},
         /* A ring: the first pass finds nothing to rebuild, and counts. With a line beside it that a column rebuilds it is the second. */
         {{4, 4, 0, 4, 4, 0}, 1},
@@ -1251,20 +1251,22 @@ static int takes_less(void (*call)(void), size_t bytes)
     return 0 < depth && depth < bytes;
 }
 
-/* The staircase of `chain_big` as a list, and all lines faulty; gives whether the forecast fits into its stack and is right. */
-static int forecast_fits(void)
+/* The lines of `chain_big`, as a list. */
+static void list_chain(void)
 {
-    int right_marks = 1;
-
     memset(big_faulty, 0, sizeof big_faulty);
     for (size_t i = 0; i < SIDE; i++)
         big_faulty[i * SIDE + i] = big_faulty[i * SIDE + i + (i + 1 < SIDE)] = 1;
-    right_marks &= takes_less(big_forecast, FORECAST_STACK) && big_answer == SUDOKU_DONE && big_passes == SIDE / 2;
+}
+
+/* Whether a forecast of the list fits into its stack and has so many passes, and all lines of the list have this mark. */
+static int forecast_fits(uint64_t passes, uint8_t mark)
+{
+    int fits_so = takes_less(big_forecast, FORECAST_STACK) && big_answer == SUDOKU_DONE && big_passes == passes;
+
     for (size_t n = 0; n < BIG; n++)
-        right_marks &= big_marks[n] == (big_faulty[n] == 0 ? 0 : SUDOKU_MARK_REBUILT);
-    memset(big_faulty, FILLING, sizeof big_faulty);
-    return right_marks && takes_less(big_forecast, FORECAST_STACK) && big_answer == SUDOKU_DONE && big_passes == 1
-        && all_equal(big_marks, sizeof big_marks, SUDOKU_MARK_FAULTY);
+        fits_so &= big_marks[n] == (big_faulty[n] == 0 ? SUDOKU_MARK_CLEAN : mark);
+    return fits_so;
 }
 
 /* What all calls take that no repair is part of. */
@@ -1274,7 +1276,10 @@ static void other_depths(void)
     CHECK(takes_less(big_change, 2 * 1024) && big_answer == SUDOKU_DONE);
     CHECK(takes_less(read_alone, 2 * 1024) && big_answer == SUDOKU_DONE);
     CHECK(takes_less(write_one, 2 * 1024) && big_answer == SUDOKU_DONE);
-    CHECK(forecast_fits());
+    list_chain();
+    CHECK(forecast_fits(SIDE / 2, SUDOKU_MARK_REBUILT));
+    memset(big_faulty, FILLING, sizeof big_faulty);
+    CHECK(forecast_fits(1, SUDOKU_MARK_FAULTY));
     CHECK(takes_less(add_big, 2 * 1024) && big_answer == SUDOKU_DONE);
     CHECK(takes_less(compare_big, 2 * 1024) && big_answer == SUDOKU_DONE);
 }

@@ -37,7 +37,7 @@ clean-sum g s line count b w e =
     v = sum (lineAt s) (g .members) ⊕ g .parity
 
 -- how many are selected where the test changes for one of them
-count-changed : (f g : ℕ → Bool) (n : ℕ) (ns : List ℕ) → Rising ns → n ∈ ns → ((m : ℕ) → (m ≡ n → ⊥) → g m ≡ f m)
+pub count-changed : (f g : ℕ → Bool) (n : ℕ) (ns : List ℕ) → Rising ns → n ∈ ns → ((m : ℕ) → (m ≡ n → ⊥) → g m ≡ f m)
     → length (select g ns) + one-if (f n) ≡ length (select f ns) + one-if (g n)
 count-changed f g n [] r i h = absurd i
 count-changed f g n (m ∷ ms) r (inl p) h =

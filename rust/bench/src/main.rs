@@ -15,9 +15,11 @@
 //! Each row's bar is judged by the median; one that isn't met is no failure.
 //!
 //! A second table has one line wanted, a third wear reports, each row beside a
-//! measure of its own, in the same rounds.
+//! measure of its own, in the same rounds. A fourth has forecasts, beside the
+//! library's own repair and the peer's forecast.
 
 mod doers;
+mod forecast;
 mod one;
 mod runs;
 mod stores;
@@ -31,7 +33,7 @@ use std::process::ExitCode;
 
 use doers::{ALL, Doer, compare, compare_writing};
 use stores::{Buffers, DATA_BYTES, LINE_BYTES, Store};
-use table::{Bar, Figures, HEAD, HEAD_ONE, HEAD_WEAR, Row, figures, scaled};
+use table::{Bar, Figures, HEAD, HEAD_FORECAST, HEAD_ONE, HEAD_WEAR, Row, grown, scaled};
 use timing::{ROUNDS, Range, rounds};
 
 /// The side of the large stores.
@@ -110,19 +112,8 @@ fn growth(stores: &[Store; SIDES.len()]) -> [Vec<Figures>; SIDES.len() + 1] {
             black_box(&buffers[i]);
         }
     });
-    let mut rows = [const { vec![] }; SIDES.len() + 1];
-    for round in times {
-        let (sizes, _) = round.as_chunks::<3>();
-        for (row, times) in rows.iter_mut().zip(sizes) {
-            row.push(figures(&times.map(|time| time / (SIDE * SIDE) as f64)));
-        }
-        let grown = [0, 1, 2].map(|doer| {
-            let times = sizes.iter().map(|size| size[doer]);
-            times.clone().fold(0.0, f64::max) / times.fold(f64::INFINITY, f64::min)
-        });
-        rows[SIDES.len()].push(figures(&grown));
-    }
-    rows
+    let each = |round: [f64; 9]| round.map(|time| time / (SIDE * SIDE) as f64);
+    grown(times.into_iter().map(each))
 }
 
 /// One run: for each row of all tables its figures in every round.
@@ -165,16 +156,19 @@ fn run() -> Vec<Vec<Figures>> {
     given.extend(growth(&clean_stores));
     given.extend(one::run(clean));
     given.extend(wear::run(clean, &hurt[1]));
+    given.extend(forecast::run(clean, &hurt[1], &hurt[2]));
     given
 }
 
 /// The tables: the head of each, its rows, and how many figures a row has. Those
-/// of the first are three times and two ratios, of the others two and one.
-fn tables() -> [(&'static str, Vec<Row>, usize); 3] {
+/// of the first and the last are three times and two ratios, of the others two and
+/// one.
+fn tables() -> [(&'static str, Vec<Row>, usize); 4] {
     [
         (HEAD, rows(), 5),
         (HEAD_ONE, one::rows(), 3),
         (HEAD_WEAR, wear::rows(), 3),
+        (HEAD_FORECAST, forecast::rows(), 5),
     ]
 }
 

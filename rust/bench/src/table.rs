@@ -19,6 +19,12 @@ pub const HEAD_WEAR: &str = "\
 | wear | library | measure | library / measure | bar | met |
 |---|---|---|---|---|---|";
 
+/// The head of the table of forecasts, beside the repair of the same store and the
+/// peer's forecast.
+pub const HEAD_FORECAST: &str = "\
+| forecast | library | repair | peer | library / repair | library / peer | bar | met |
+|---|---|---|---|---|---|---|---|";
+
 /// What one round or one run says of a row: the library's time and those that
 /// it stands beside, then the library's through each of these.
 pub type Figures = Vec<f64>;
@@ -34,6 +40,25 @@ pub fn figures(times: &[f64]) -> Figures {
 pub fn scaled<const N: usize>(times: Vec<[f64; N]>, by: f64) -> Vec<Figures> {
     let scaled = |times: [f64; N]| figures(&times.map(|time| time / by));
     times.into_iter().map(scaled).collect()
+}
+
+/// Of rounds with three times for each of three sizes: the figures of each size,
+/// and then those of the growth, the largest of the same three through the
+/// smallest.
+pub fn grown(rounds: impl Iterator<Item = [f64; 9]>) -> [Vec<Figures>; 4] {
+    let mut rows = [const { vec![] }; 4];
+    for round in rounds {
+        let (sizes, _) = round.as_chunks::<3>();
+        for (row, times) in rows.iter_mut().zip(sizes) {
+            row.push(figures(times));
+        }
+        let growth = [0, 1, 2].map(|of| {
+            let times = sizes.iter().map(|size| size[of]);
+            times.clone().fold(0.0, f64::max) / times.fold(f64::INFINITY, f64::min)
+        });
+        rows[3].push(figures(&growth));
+    }
+    rows
 }
 
 /// The medians of the figures of several rounds, of which there is at least
@@ -57,6 +82,8 @@ pub enum Bar {
     Copies(f64),
     /// So many times its measure's.
     Measure(f64),
+    /// So many times that of repair, which is the first beside it.
+    Repair(f64),
     /// So much itself.
     Itself(f64),
 }
@@ -68,6 +95,7 @@ impl Bar {
             Bar::Peer(most) => (3, most),
             Bar::Copies(most) => (4, most),
             Bar::Measure(most) => (2, most),
+            Bar::Repair(most) => (3, most),
             Bar::Itself(most) => (0, most),
         }
     }
@@ -93,6 +121,7 @@ impl fmt::Display for Bar {
             Bar::Peer(most) => write!(f, "{most:.2} of the peer"),
             Bar::Copies(most) => write!(f, "{most} copies"),
             Bar::Measure(most) => write!(f, "{most:.2} of the measure"),
+            Bar::Repair(most) => write!(f, "{most:.2} of repair"),
             Bar::Itself(most) => write!(f, "{most}"),
         }
     }
@@ -126,12 +155,12 @@ impl Row {
             format!("{median:.digits$}{unit} ({low:.digits$} to {high:.digits$})")
         };
         let mut cells = vec![self.name.clone()];
-        // Of the first of those beside it the ratio has one digit more, and more
-        // still if it is small.
+        // Of the first of those beside it the ratio has one digit more, as has one
+        // that is near 1, and more still if it is small.
         let beside = of[0].len() / 2;
-        let digits = |i| match i {
-            1 if spread(of, beside + i, range).median < 0.1 => 4,
-            1 => 2,
+        let digits = |i| match spread(of, beside + i, range).median {
+            ratio if ratio < 0.1 => 4,
+            ratio if i == 1 || ratio < 2.0 => 2,
             _ => 1,
         };
         let ratios = (1..=beside).map(|i| cell(beside + i, digits(i), ""));
@@ -210,6 +239,33 @@ mod tests {
             "| alone | 7.0 ns (5.0 to 9.0) | 6.0 ns (4.0 to 8.0) | 1.19 (1.12 to 1.25) \
              | 1.20 of the measure | yes (1 of 2) |"
         );
+    }
+
+    #[test]
+    fn a_row_beside_repair_and_peer() {
+        let forecast = Row::new("forecast", Some("µs"), &[Bar::Repair(0.05)]);
+        assert_eq!(
+            forecast.line(&all([[40.0, 8000.0, 32.0]]), Range::Quartiles),
+            "| forecast | 40.0 µs (40.0 to 40.0) | 8000.0 µs (8000.0 to 8000.0) \
+             | 32.0 µs (32.0 to 32.0) | 0.0050 (0.0050 to 0.0050) | 1.25 (1.25 to 1.25) \
+             | 0.05 of repair | yes |"
+        );
+    }
+
+    #[test]
+    fn growth_is_that_of_each_round() {
+        let rounds = [
+            [1.0, 10.0, 2.0, 2.0, 10.0, 4.0, 4.0, 5.0, 1.0],
+            [3.0, 1.0, 1.0, 3.0, 1.0, 1.0, 3.0, 1.0, 1.0],
+        ];
+        let [first, second, third, growth] = grown(rounds.into_iter());
+        assert_eq!(
+            first,
+            [[1.0, 10.0, 2.0], [3.0, 1.0, 1.0]].map(|of| figures(&of))
+        );
+        assert_eq!(second[0], figures(&[2.0, 10.0, 4.0]));
+        assert_eq!(third[0], figures(&[4.0, 5.0, 1.0]));
+        assert_eq!(growth, [[4.0, 2.0, 4.0], [1.0; 3]].map(|of| figures(&of)));
     }
 
     #[test]

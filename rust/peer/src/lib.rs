@@ -3,12 +3,14 @@
 //!
 //! The rules are document 01's, with requests of document 02,
 //! and of Q-5 what the library is measured by: a count of marks, and a comparison
-//! of two wear reports. A line is nine 64-bit words: eight of data, and one with the CRC
-//! in bits 0 to 30 and the Hamming bits from bit 32. The CRC goes by tables,
-//! sixteen bytes at a time; the Hamming bits by moving places to their positions,
-//! a word at a time, and folding. Repair reads every parity line and every line
-//! once, keeps for each group what its lines lack of its parity line, and from
-//! then on looks only at groups in which something changed.
+//! of two wear reports. A line is nine 64-bit words: eight of data, and one with
+//! the CRC in bits 0 to 30 and the Hamming bits from bit 32. The CRC goes by
+//! tables, sixteen bytes at a time; the Hamming bits by moving places to their
+//! positions, a word at a time, and folding. Repair reads every parity line and
+//! every line once, keeps for each group what its lines lack of its parity line,
+//! and from then on looks only at groups in which something changed. A forecast
+//! keeps for each group how many of its lines are faulty, and which it is if
+//! there is one.
 
 mod code;
 mod forecast;

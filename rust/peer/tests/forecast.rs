@@ -2,7 +2,7 @@
 //! the reference has it.
 
 mod given;
-// Of the forecasts beside repairs only those without trials serve here.
+// Stores hurt in any way are left to the reference and the library.
 #[allow(dead_code)]
 #[path = "../../reference/tests/q6/mod.rs"]
 mod q6;
@@ -98,6 +98,6 @@ fn with_trials_no_other_line_is_left() {
         beside.check(&call, &forecast(&call), &repair(&mut random, &store));
     }
     println!("{beside:?}");
-    beside.expect(50);
+    beside.expect(40);
     beside.expect_other_passes(20);
 }

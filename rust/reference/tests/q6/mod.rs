@@ -1,7 +1,8 @@
 //! What request Q-6 says of a forecast: from one byte for each line, 0 whole and
 //! anything else faulty, it gives the marks and passes of a repair in which no
-//! trial takes and every parity line is usable. Every such repair with usable
-//! parity lines leaves no other lines faulty. Refusals are 2 and 7.
+//! trial takes and every parity line is usable. Whatever trials take, a repair with
+//! these faulty lines and usable parity lines leaves no line that the forecast
+//! doesn't leave. Refusals are 2 and 7.
 //!
 //! Everything here takes what an implementation gives, so that the tests of
 //! the library use it too: a forecast as a function of a call to the answer, the

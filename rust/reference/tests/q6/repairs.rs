@@ -1,6 +1,6 @@
-//! Forecasts beside repairs of stores whose faulty lines they are told: equal
-//! where no trial takes, and never too hopeful nor, line by line, wrong where one
-//! does.
+//! Forecasts beside repairs of stores whose faulty lines they are told. Where no
+//! trial takes both are equal; where one does, every line that repair leaves is
+//! one that the forecast leaves.
 
 use reference::draw::forecast as draw;
 use reference::draw::{self as stores, Damage, Outcome, Store, flip};

@@ -1,11 +1,11 @@
 //! The crate's forecast from a list of line numbers, over C's function.
 
 use library_tests::forecast::forecast as guarded;
-use library_tests::{Library, cases, seed, watched};
+use library_tests::{Library, as_many_as_usual, cases, seed, watched};
 use reference::draw;
 use reference::draw::forecast::{Call, Given, call_on, pattern};
 use reference::random::Random;
-use sudoku::{Answer, Forecast, Mark, Store, forecast};
+use sudoku::{Answer, Forecast, Mark, Repaired, Store, forecast};
 
 use crate::crate_over_c::store_of;
 use crate::demands::has_unusable;
@@ -72,29 +72,40 @@ fn faulty_lines(store: &Store) -> Vec<usize> {
     (0..store.count()).filter(is_faulty).collect()
 }
 
+/// The numbers of the lines that repair gives up.
+fn given_up(repaired: &Repaired) -> Vec<usize> {
+    let is_faulty = |&n: &usize| repaired.marks[n] == Mark::Faulty;
+    (0..repaired.marks.len()).filter(is_faulty).collect()
+}
+
+/// Stores with usable parity lines: of a list that names more lines than are
+/// faulty no fewer are lost, so that it foretells what is given up too.
 #[test]
 fn no_caption_is_given_up_that_is_not_foretold() {
     let mut random = Random::new(seed());
-    let (mut lost, mut left) = (0, 0);
+    let (mut all_lost, mut all_given_up) = (0, 0);
     for _ in 0..cases(2_000) {
         let drawn = draw::hurt_store(&mut random, 6);
         if has_unusable(&drawn) {
             continue;
         }
         let store = store_of(&drawn);
-        let list = faulty_lines(&store);
-        let foretold = forecast(store.rows(), store.columns(), &list).expect("right sides");
-        let repaired = store.repair();
-        let given_up = |&n: &usize| repaired.marks[n] == Mark::Faulty;
-        let given_up: Vec<usize> = (0..store.count()).filter(given_up).collect();
-        let foretells = |n| foretold.lost().contains(n);
-        assert!(given_up.iter().all(foretells));
-        assert!(!foretold.saves_all() || repaired.answer != Answer::Left);
-        lost += foretold.lost().len();
-        left += given_up.len();
+        let mut list = faulty_lines(&store);
+        let lost_of = |list: &[usize]| {
+            let foretold = forecast(store.rows(), store.columns(), list);
+            foretold.expect("lines of the store").lost()
+        };
+        let (lost, given_up) = (lost_of(&list), given_up(&store.repair()));
+        assert!(given_up.iter().all(|n| lost.contains(n)));
+        let more = random.between(1, 4);
+        list.extend((0..more).map(|_| random.below(store.count())));
+        let lost_of_more = lost_of(&list);
+        assert!(lost.iter().all(|n| lost_of_more.contains(n)));
+        all_lost += lost.len();
+        all_given_up += given_up.len();
     }
-    println!("request Q-6: {lost} lines lost by forecasts, {left} given up by repairs");
-    assert!(left < lost);
+    println!("request Q-6: {all_lost} lines lost by forecasts, {all_given_up} given up by repairs");
+    assert!(!as_many_as_usual() || all_given_up < all_lost);
 }
 
 #[test]

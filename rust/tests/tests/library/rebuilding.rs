@@ -1,129 +1,111 @@
 //! The forecast of request Q-6 beside the library's own repair: where no trial
-//! takes they give the same, and while all parity lines are usable repair leaves
-//! no line faulty but those that the forecast leaves.
+//! takes they give the same, and as long as all parity lines are usable repair
+//! leaves no line faulty but those that the forecast leaves.
 
 use std::collections::BTreeSet;
 
-use library_tests::forecast::forecast;
 use library_tests::{Library, as_many_as_usual, cases, seed, watched};
-use reference::draw::forecast::{Given, Way, call_on, pattern, pattern_by};
-use reference::draw::{self, Outcome, Store};
+use reference::PROTECTED_PLACES;
+use reference::draw::forecast::{Call, Given, Way, call_on, pattern, pattern_by};
+use reference::draw::{self, Damage, Outcome, Store};
 use reference::random::Random;
-use reference::{LINE_BYTES, PROTECTED_PLACES};
 
 use crate::demands::has_unusable;
-use crate::samples::{self, read};
+use crate::forecast::forecasts;
+use crate::forecast::q6::Hurt;
+use crate::forecast::q6::repairs::{
+    Beside, expect_equal, faulty_alone, for_trials, hurt_store, past_trials,
+};
+use crate::samples;
 
-/// Rows and columns.
-type Sides = (usize, usize);
-
-/// The library's forecast of these faulty lines.
-fn foretold(random: &mut Random, sides: Sides, faulty: Vec<u8>) -> Given {
-    let given = forecast(&Library, &call_on(random, sides, faulty), 6);
-    assert_eq!(given.answer, 0);
-    given
+/// The library's forecast.
+fn foretold(call: &Call) -> Given {
+    forecasts(&Library)(call)
 }
 
-/// Repairs a store with the library.
+/// The library's repair.
 fn repaired(store: &Store) -> Outcome {
     samples::repaired(&Library, store)
 }
 
-/// Damage that reading alone mends: to some lines that are whole and to some
-/// parity lines one place each, and spare bits.
-fn hurt_lightly(random: &mut Random, store: &mut Store, faulty: &[u8]) {
-    for n in 0..faulty.len() {
-        if faulty[n] == 0 && random.once_in(5) {
-            store.hurt(n, &[draw::place(random)]);
-        }
-    }
-    for row in 0..store.rows {
-        if random.once_in(3) {
-            store.hurt_row_parity(row, &[draw::place(random)]);
-        }
-    }
-    for column in 0..store.columns {
-        if random.once_in(3) {
-            store.hurt_column_parity(column, &[draw::place(random)]);
-        }
-    }
-    draw::set_spare_bits(random, &mut store.lines, 4);
-}
-
-/// Hurts each faulty line at four protected places that no other faulty line of
-/// its row or column is hurt at: it can't be read alone, and where two or more are
-/// left in a group, their mismatch has at least eight places. So nothing is tried.
-fn hurt_apart(random: &mut Random, store: &mut Store, faulty: &[u8]) {
-    let mut places: Vec<usize> = (0..PROTECTED_PLACES).collect();
-    random.shuffle(&mut places);
-    let fours: Vec<&[usize]> = places.chunks_exact(4).collect();
-    let mut taken = vec![BTreeSet::new(); store.rows + store.columns];
-    for n in (0..faulty.len()).filter(|&n| faulty[n] != 0) {
-        let groups = [n / store.columns, store.rows + n % store.columns];
-        let is_free = |four: &usize| !groups.iter().any(|&group| taken[group].contains(four));
-        let four = (0..fours.len()).find(is_free).expect("four places");
-        groups.map(|group| taken[group].insert(four));
-        store.hurt(n, fours[four]);
-    }
-}
-
-/// What repairs without trials came to.
+/// How often each mark was given, and the most passes.
 #[derive(Debug, Default)]
-struct Equal {
+struct Marked {
     stores: usize,
     by_mark: [usize; 5],
     most_passes: u64,
 }
 
-impl Equal {
-    /// Repair of this store gives the forecast of its faulty lines: marks, but for
-    /// 1 of lines that are whole, and passes.
-    fn check(&mut self, random: &mut Random, store: &Store, faulty: Vec<u8>) {
-        let due = foretold(random, (store.rows, store.columns), faulty);
-        let given = repaired(store);
-        for (n, (&mark, &due)) in given.marks.iter().zip(&due.marks).enumerate() {
-            let as_foretold = if mark == 1 { 0 } else { mark };
-            assert_eq!(as_foretold, due, "line {n}");
+impl Marked {
+    /// Repair of a store in which these lines are faulty and no trial takes gives
+    /// what is foretold.
+    fn check(&mut self, call: &Call, store: &Store) {
+        let repaired = repaired(store);
+        expect_equal(call, &foretold(call), &repaired);
+        let left = repaired.marks.contains(&4);
+        assert_eq!(repaired.answer, if left { 11 } else { 0 });
+        for &mark in &repaired.marks {
             self.by_mark[usize::from(mark)] += 1;
         }
-        let answer = if due.marks.contains(&4) { 11 } else { 0 };
-        assert_eq!((given.answer, given.passes), (answer, due.passes));
         self.stores += 1;
-        self.most_passes = self.most_passes.max(given.passes);
+        self.most_passes = self.most_passes.max(repaired.passes);
+    }
+
+    /// No trial took, and everything else came up.
+    fn expect(&self, least: usize, least_passes: u64) {
+        let [clean, rewritten, trial, rebuilt, left] = self.by_mark;
+        let others = [clean, rewritten, rebuilt, left];
+        assert!(others.iter().all(|&count| count >= least), "{self:?}");
+        assert!(self.most_passes >= least_passes, "{self:?}");
+        assert_eq!(trial, 0, "{self:?}");
     }
 }
 
 #[test]
 fn where_no_trial_takes_repair_gives_the_forecast() {
     let mut random = Random::new(seed());
-    let mut equal = Equal::default();
-    for case in 0..cases(3_000) {
-        let sides = draw::sides(&mut random, 2 + case % 16);
-        let faulty = pattern(&mut random, sides);
-        let mut store = Store::random(&mut random, sides.0, sides.1);
-        hurt_lightly(&mut random, &mut store, &faulty);
-        hurt_apart(&mut random, &mut store, &faulty);
-        equal.check(&mut random, &store, faulty);
+    let mut marked = Marked::default();
+    for case in 0..cases(1_500) {
+        for hurt in Hurt::ALL {
+            let sides = draw::sides(&mut random, 2 + case % 16);
+            let faulty = pattern(&mut random, sides);
+            let call = call_on(&mut random, sides, faulty);
+            let store = past_trials(&mut random, &call, hurt);
+            marked.check(&call, &store);
+        }
     }
-    println!("request Q-6, repairs without trials: {equal:?}");
-    assert_eq!(equal.by_mark[2], 0);
+    println!("request Q-6, repairs without trials: {marked:?}");
     if as_many_as_usual() {
-        let [clean, rewritten, _, rebuilt, left] = equal.by_mark;
-        assert!(
-            [clean, rewritten, rebuilt, left]
-                .iter()
-                .all(|&of| of > 1_000)
-        );
-        assert!(equal.most_passes > 4);
+        marked.expect(1_000, 5);
     }
 }
 
-/// The same of large stores, with patterns that have few lines in each row and
-/// column: of the places of a line there are 135 fours.
+/// A store of zero lines in which these are faulty, and no trial takes: each is
+/// hurt at four places that no other of its row or column has, so that wherever
+/// two are left their mismatch has at least eight. There are 135 such fours, and
+/// a row and a column together have fewer faulty lines than that.
+fn hurt_apart(random: &mut Random, call: &Call) -> Store {
+    let mut store = Store::zero(call.rows, call.columns);
+    let mut places: Vec<usize> = (0..PROTECTED_PLACES).collect();
+    random.shuffle(&mut places);
+    let fours: Vec<&[usize]> = places.chunks_exact(4).collect();
+    let mut taken = vec![BTreeSet::new(); call.rows + call.columns];
+    for n in (0..store.count()).filter(|&n| call.faulty[n] != 0) {
+        let (row, column) = (n / call.columns, call.rows + n % call.columns);
+        let is_free = |four: &usize| !taken[row].contains(four) && !taken[column].contains(four);
+        let four = (0..fours.len()).find(is_free).expect("four places");
+        taken[row].insert(four);
+        taken[column].insert(four);
+        store.hurt(n, fours[four]);
+    }
+    store
+}
+
+/// The same of the largest stores: patterns with few lines in each row and column.
 #[test]
-fn large_stores_without_trials() {
+fn the_largest_stores_without_trials() {
     let mut random = Random::new(seed());
-    let mut equal = Equal::default();
+    let mut marked = Marked::default();
     let side = if watched() { 9 } else { 512 };
     let ways = [
         Way::Few,
@@ -134,114 +116,73 @@ fn large_stores_without_trials() {
     ];
     for way in ways {
         let faulty = pattern_by(&mut random, (side, side), way);
-        let mut store = Store::zero(side, side);
-        hurt_lightly(&mut random, &mut store, &faulty);
-        hurt_apart(&mut random, &mut store, &faulty);
-        equal.check(&mut random, &store, faulty);
-    }
-    println!("request Q-6, large repairs without trials: {equal:?}");
-}
-
-/// Which lines of a store can't be read alone: a byte for each line.
-fn first_reading(store: &Store) -> Vec<u8> {
-    let is_faulty = |line| read(&Library, line).1 == 4;
-    let lines = store.lines.chunks(LINE_BYTES);
-    lines.map(|line| u8::from(is_faulty(line))).collect()
-}
-
-/// What repairs with trials came to beside their forecasts.
-#[derive(Debug, Default)]
-struct Bounded {
-    stores: usize,
-    /// Stores of which trials saved lines that the forecast leaves.
-    saved: usize,
-    /// Those of which some were left all the same.
-    saved_in_part: usize,
-    /// Stores that took more passes than foretold, and fewer.
-    more_passes: usize,
-    fewer_passes: usize,
-    /// Stores of which a line was left that the forecast saves.
-    exceeded: usize,
-}
-
-impl Bounded {
-    /// Counts a store; gives whether repair left no line that the forecast saves.
-    fn count(&mut self, random: &mut Random, store: &Store) -> bool {
-        let faulty = first_reading(store);
-        let due = foretold(random, (store.rows, store.columns), faulty.clone());
-        let given = repaired(store);
-        let was_faulty = |mark: &u8| u8::from(*mark > 1);
-        assert!(given.marks.iter().map(was_faulty).eq(faulty));
-        let both = || given.marks.iter().zip(&due.marks);
-        let within = both().all(|(&mark, &due)| mark != 4 || due == 4);
-        let saved = both().any(|(&mark, &due)| mark != 4 && due == 4);
-        self.stores += 1;
-        self.saved += usize::from(saved);
-        self.saved_in_part += usize::from(saved && given.marks.contains(&4));
-        self.more_passes += usize::from(given.passes > due.passes);
-        self.fewer_passes += usize::from(given.passes < due.passes);
-        self.exceeded += usize::from(!within);
-        within
-    }
-}
-
-/// Hurts each faulty line at two to six places out of a few, so that many a
-/// mismatch is small enough to be tried.
-fn hurt_closely(random: &mut Random, store: &mut Store, faulty: &[u8]) {
-    let few = random.between(7, 30);
-    let mut places = draw::places(random, few);
-    for n in (0..faulty.len()).filter(|&n| faulty[n] != 0) {
-        random.shuffle(&mut places);
-        let count = random.between(2, 6);
-        store.hurt(n, &places[..count]);
-    }
-}
-
-#[test]
-fn with_trials_repair_stays_within_the_forecast() {
-    let mut random = Random::new(seed());
-    let mut bounded = Bounded::default();
-    for case in 0..cases(8_000) {
-        let sides = draw::sides(&mut random, 2 + case % 7);
-        let faulty = pattern(&mut random, sides);
-        let mut store = Store::random(&mut random, sides.0, sides.1);
-        if random.once_in(2) {
-            hurt_lightly(&mut random, &mut store, &faulty);
+        let call = call_on(&mut random, (side, side), faulty);
+        let mut store = hurt_apart(&mut random, &call);
+        let whole = (0..store.count()).filter(|&n| call.faulty[n] == 0);
+        for n in whole.step_by(97) {
+            store.hurt(n, &[draw::place(&mut random)]);
         }
-        hurt_closely(&mut random, &mut store, &faulty);
-        assert!(bounded.count(&mut random, &store), "case {case}");
+        marked.check(&call, &store);
     }
-    println!("request Q-6, repairs with trials: {bounded:?}");
+    println!("request Q-6, the largest repairs without trials: {marked:?}");
+    assert!(watched() || marked.most_passes > 20);
+}
+
+/// Repairs a store, and holds it against the forecast of the lines that are faulty
+/// after the first reading.
+fn hold(random: &mut Random, store: &Store, beside: &mut Beside) {
+    let call = faulty_alone(random, store);
+    beside.check(&call, &foretold(&call), &repaired(store));
+}
+
+#[test]
+fn with_trials_no_line_is_left_that_the_forecast_saves() {
+    let mut random = Random::new(seed());
+    let mut beside = Beside::default();
+    for case in 0..cases(6_000) {
+        let sides = draw::sides(&mut random, 2 + case % 8);
+        let store = for_trials(&mut random, sides);
+        hold(&mut random, &store, &mut beside);
+    }
+    println!("request Q-6, repairs with trials: {beside:?}");
     if as_many_as_usual() {
-        let Bounded {
-            saved,
-            saved_in_part,
-            more_passes,
-            fewer_passes,
-            ..
-        } = bounded;
-        let all = [saved, saved_in_part, more_passes, fewer_passes];
-        assert!(all.iter().all(|&count| count > 20));
+        beside.expect(100);
+        beside.expect_other_passes(100);
     }
 }
 
-/// Any damage: the forecast is a bound where all parity lines are usable, and
-/// none where some aren't.
 #[test]
-fn any_damage_within_the_forecast_if_parity_is_usable() {
+fn no_damage_leaves_a_line_that_the_forecast_saves() {
     let mut random = Random::new(seed());
-    let (mut usable, mut unusable) = (Bounded::default(), Bounded::default());
-    for case in 0..cases(8_000) {
+    let mut beside = Beside::default();
+    for way in (0..cases(300)).flat_map(|_| Damage::ALL) {
+        let sides = draw::sides(&mut random, 6);
+        let store = hurt_store(&mut random, sides, way);
+        hold(&mut random, &store, &mut beside);
+    }
+    println!("request Q-6, repairs of any damage: {beside:?}");
+    if as_many_as_usual() {
+        beside.expect(100);
+    }
+}
+
+/// Where some parity line can't be read, the forecast is no bound: lines are left
+/// that it saves.
+#[test]
+fn with_unusable_parity_lines_more_may_be_left() {
+    let mut random = Random::new(seed());
+    let (mut unusable, mut exceeded) = (0, 0);
+    for _ in 0..cases(6_000) {
         let store = draw::hurt_store(&mut random, 6);
-        if has_unusable(&store) {
-            unusable.count(&mut random, &store);
-        } else {
-            assert!(usable.count(&mut random, &store), "case {case}");
+        if !has_unusable(&store) {
+            continue;
         }
+        let given = foretold(&faulty_alone(&mut random, &store));
+        let repaired = repaired(&store);
+        let mut lines = repaired.marks.iter().zip(&given.marks);
+        exceeded += usize::from(lines.any(|(&mark, &foretold)| mark == 4 && foretold == 3));
+        unusable += 1;
     }
-    println!("request Q-6, any damage, parity usable: {usable:?}");
-    println!("request Q-6, any damage, parity unusable: {unusable:?}");
-    if as_many_as_usual() {
-        assert!(usable.saved > 100 && unusable.exceeded > 100);
-    }
+    println!("request Q-6: {exceeded} of {unusable} repairs with unusable groups leave more");
+    assert!(!as_many_as_usual() || exceeded > 100);
 }

@@ -1,8 +1,9 @@
 //! Every sample of document 01 and its edges, on both implementations.
 
+use library_tests::forecast::forecast;
 use library_tests::{Guarded, Interface, both};
 use reference::LINE_BYTES;
-use reference::draw::{Call, Outcome, Store, call_on, flip, staircase};
+use reference::draw::{Call, Outcome, Store, call_on, flip, forecast as patterns, staircase};
 use reference::random::Random;
 use sudoku::c::Out;
 
@@ -166,9 +167,9 @@ fn six_mismatch_places_are_tried_seven_are_not() {
     }
 }
 
-/// The answers of tables, change, repair and a read of one line for a zero store
-/// of these sides; refusals must write nothing.
-fn answers_for_sides(on: &dyn Interface, rows: usize, columns: usize) -> [u32; 4] {
+/// The answers of tables, change, repair, a read of one line and a forecast for a
+/// zero store of these sides; refusals must write nothing.
+fn answers_for_sides(on: &dyn Interface, rows: usize, columns: usize) -> [u32; 5] {
     let fits = rows.max(columns) <= 513;
     let (r, c) = if fits { (rows, columns) } else { (0, 0) };
     let store = Store::zero(r, c);
@@ -199,19 +200,23 @@ fn answers_for_sides(on: &dyn Interface, rows: usize, columns: usize) -> [u32; 4
     let one = read_one(on, &call);
     let refused = (one.mark, one.step) == (0, 0) && one.after == call;
     assert_eq!(refused, one.answer != 0);
-    [tables, change, answer, one.answer]
+
+    let whole = vec![0; store.count()];
+    let pattern = patterns::call_on(&mut Random::new(6), (rows, columns), whole);
+    let foretold = forecast(on, &pattern, 8).answer;
+    [tables, change, answer, one.answer, foretold]
 }
 
 #[test]
 fn sides_2_and_512_pass_1_and_513_do_not() {
     for on in both() {
         for sides in [(2, 2), (2, 512), (512, 2)] {
-            assert_eq!(answers_for_sides(on, sides.0, sides.1), [0; 4]);
+            assert_eq!(answers_for_sides(on, sides.0, sides.1), [0; 5]);
         }
         let outside = [(1, 2), (2, 1), (513, 2), (2, 513), (0, 2), (2, 0), (1, 513)];
         let huge = [(usize::MAX, usize::MAX), (1 << 63, 2), (1 << 32, 1 << 32)];
         for sides in outside.into_iter().chain(huge) {
-            assert_eq!(answers_for_sides(on, sides.0, sides.1), [2; 4]);
+            assert_eq!(answers_for_sides(on, sides.0, sides.1), [2; 5]);
         }
     }
 }

@@ -1,0 +1,1 @@
+-- Laws of the forecast on marks and counts.
