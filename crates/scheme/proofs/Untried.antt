@@ -99,7 +99,7 @@ faulty-as m = go (eqb m 1) refl
     go true e = rw (eqb-true m 1 e)
     go false e = refl
 
-map-set : {A B : Type 0} (f : A → B) (l : List A) (n : ℕ) (a : A) → map f (set l n a) ≡ set (map f l) n (f a)
+pub map-set : {A B : Type 0} (f : A → B) (l : List A) (n : ℕ) (a : A) → map f (set l n a) ≡ set (map f l) n (f a)
 map-set f [] n a = refl
 map-set f (b ∷ l) zero a = refl
 map-set {A} {B} f (b ∷ l) (suc n) a = ap (λ (k : List B). f b ∷ k) (map-set f l n a)

@@ -1,38 +1,43 @@
+-- `peeling::refusal` meets its contract: each way out is the first test that fails.
+use mathlib.Core.Path.{_≡_, sym, _∙_}
+use mathlib.Core.Bool.{true}
+use borrow.Author.Tests.{eq-eqb, ne-eqb, not-true, not-false}
+use Rattle.rectangle.specs.Refusals.{sidesFit}
+use Rattle.rectangle.proofs.Area.{area}
+use Rattle.forecast.specs.Forecast.{oneForEach, forecastRefusal}
 use native.Mathlib.Omega.{arith}
 use borrow.Author.Needs.{needs}
 use Rattle.peeling.proofs.refusal.Statement.{statement}
 use Rattle.peeling.proofs.refusal.Tie as tie
-use Rattle.peeling.proofs.refusal.Reads as reads
-use Rattle.peeling.proofs.refusal.Lts as lts
-use Rattle.rectangle.proofs.sizes.sides_fit.Reads as sides-fit-reads
 
--- src/lib.rt:22:9
 sides-fit-requires : tie.Need-sides-fit-requires
 sides-fit-requires c κs = search needs
 
--- src/lib.rt:23:9
 returns : tie.Need-returns
-returns c = ?
+unfolding forecastRefusal
+returns c = rw (sym (c .before .sides-fit .ensures) ∙ not-true _ (c .if1 .taken))
 
--- src/lib.rt:25:24
+-- past the first test
+fit : (c : tie.Else1) → let a = c .before .before .before .before .args in sidesFit (a .rows) (a .columns) ≡ true
+fit c = sym (c .before .sides-fit .ensures) ∙ not-false _ (c .if1 .left)
+
 mul-if2 : tie.Need-mul-if2
-mul-if2 c = ?
+mul-if2 c = omega (arith, area _ _ (fit c))
 
--- src/lib.rt:26:9
 returns-2 : tie.Need-returns-2
-returns-2 c = ?
+unfolding forecastRefusal oneForEach
+returns-2 c = rw (fit (c .before), ne-eqb _ _ (c .if2 .taken))
 
--- src/lib.rt:28:23
 mul-if3 : tie.Need-mul-if3
 mul-if3 c = search needs
 
--- src/lib.rt:29:9
 returns-3 : tie.Need-returns-3
-returns-3 c = ?
+unfolding forecastRefusal oneForEach
+returns-3 c = rw (fit (c .before .before), eq-eqb _ _ (c .before .if2 .left), ne-eqb _ _ (c .if3 .taken))
 
--- src/lib.rt:19:1
 returns-4 : tie.Need-returns-4
-returns-4 c = ?
+unfolding forecastRefusal oneForEach
+returns-4 c = rw (fit (c .before .before), eq-eqb _ _ (c .before .if2 .left), eq-eqb _ _ (c .if3 .left))
 
 pub refusal-spec : {M : Type 1} → statement M
 refusal-spec =
