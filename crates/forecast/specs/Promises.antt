@@ -11,18 +11,23 @@ use Rattle.scheme.specs.Parity.{unusable}
 use Rattle.scheme.specs.Demand3.{_∈_}
 use Rattle.scheme.specs.Forecast.{asForecast}
 use Rattle.rectangle.specs.Store.{lineLayer, row, column, groups}
-use Rattle.rectangle.specs.Refusals.{acceptedAt}
+use Rattle.rectangle.specs.Refusals.{sidesFit, acceptedAt}
 use Rattle.rectangle.specs.Repair.{Buffers, StoreRepaired, handsOver}
 use Rattle.demands.specs.Demands.{Rectangle, count, repairOf}
 use Rattle.forecast.specs.Forecast.{Forecast, forecast}
 
--- ---- "Errors: 2 and 7, otherwise 0.", and document 01: refusals "write nothing", and their passes are 0
-pub record AnswersOnly (marks : List ℕ) (given : Forecast) : Type 0 where
-  pub answer : given .answer ∈ (0 ∷ 2 ∷ 7 ∷ [])
+-- ---- "Errors: 2 and 7, otherwise 0.": 2 exactly if the sides don't fit, 0 exactly if they do and pattern and marks have a byte for each
+-- line; and document 01: refusals "write nothing", and their passes are 0
+pub record AnswersOnly (rows columns : ℕ) (pattern marks : List ℕ) (given : Forecast) : Type 0 where
+  pub answers : given .answer ∈ (0 ∷ 2 ∷ 7 ∷ [])
+  pub two : (given .answer ≡ 2) ↔ (sidesFit rows columns ≡ false)
+  pub done : (given .answer ≡ 0)
+      ↔ ((sidesFit rows columns ≡ true) × (length pattern ≡ rows * columns) × (length marks ≡ rows * columns))
   pub refused : (given .answer ≡ 0 → ⊥) → (given .marks ≡ marks) × (given .passes ≡ 0)
 
 abbrev pub ForecastAnswers : Type 0
-ForecastAnswers = (rows columns : ℕ) (pattern marks : List ℕ) → AnswersOnly marks (forecast rows columns pattern marks)
+ForecastAnswers =
+    (rows columns : ℕ) (pattern marks : List ℕ) → AnswersOnly rows columns pattern marks (forecast rows columns pattern marks)
 
 -- ---- "the marks (0 for whole) and passes": a mark for each line, 0 exactly for those whole before, 3 rebuilt or 4 faulty for the others;
 -- passes are 0 exactly if none was faulty, and never more than the lines that were
@@ -77,7 +82,7 @@ ForecastIsRepair =
     → handsOver (repairOf r b .answer) ≡ true → ((n : ℕ) → getD (repairOf r b .marks) n 0 ≡ 2 → ⊥)
     → AsForeseen (repairOf r b) (forecastFor r pattern marks)
 
--- ---- the forecast of more faults leaves more faulty
+-- ---- the forecast of more faults leaves those faulty that the other leaves, and so no fewer
 abbrev pub MoreFaultsLeaveMore : Type 0
 MoreFaultsLeaveMore =
     (rows columns : ℕ) (fewer more marks marks′ : List ℕ) → forecast rows columns fewer marks .answer ≡ 0

@@ -4,6 +4,7 @@ pub mod Seeking
 pub mod Numbers
 pub mod Found
 pub mod Counts
+pub mod Passed
 pub mod Held
 pub mod Rooms
 pub mod Added

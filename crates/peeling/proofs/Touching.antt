@@ -64,11 +64,10 @@ module _ (rows columns : ℕ) (faulty : List ℕ) (sides : Sides rows columns fa
     -- a faulty line's groups have one
     pub counted-there : (test : ℕ → Bool) → CountedBy rows columns test faulty → test n ≡ true
         → (0 < getD faulty (n / columns) 0) × (0 < getD faulty (rows + n % columns) 0)
-    counted-there test counted e =
-        (
-          some (n / columns) (omega (arith, row-listed)) (home-row rows columns some-columns n inside),
-          some (rows + n % columns) (omega (arith, column-listed)) (home-column rows columns some-columns n inside),
-        )
+    counted-there test counted e = (
+      some (n / columns) (omega (arith, row-listed)) (home-row rows columns some-columns n inside),
+      some (rows + n % columns) (omega (arith, column-listed)) (home-column rows columns some-columns n inside),
+    )
       where
         some : (k : ℕ) → k < rows + columns → n ∈ membersOf rows columns k → 0 < getD faulty k 0
         some k h i =

@@ -8,13 +8,7 @@ ghost use Rattle.peeling.specs.Lent.{Sides, Counted, markOf};
 use crate::counts;
 
 // Every line gets its mark, and every faulty one is counted in its row and its column.
-pub fn mark_all(
-    pattern: &[u8],
-    marks: &mut [u8],
-    faulty: &mut [u16],
-    rows: usize,
-    columns: usize,
-)
+pub fn mark_all(pattern: &[u8], marks: &mut [u8], faulty: &mut [u16], rows: usize, columns: usize)
     requires room { ⌜ Sides rows columns (now faulty) × (length (now pattern) ≡ rows * columns)
         × (length (now marks) ≡ rows * columns) ⌝ }
     requires none { ⌜ now faulty ≡ replicate 1024 0 ⌝ }

@@ -168,30 +168,36 @@ module _ (read : Reading) (gs hs : List Group) (lines : SameLines gs hs) where
   same-passes = by-rounds read gs Same none idle more
     where
       none : (s : State) → faultyCount s ≡ 0 → Same s (record { cells = s; passes = 0 })
-      none s e =
-          (grows-refl s, λ untried t same.
-          rw (no-pass never hs t (sym (same-count s t same) ∙ e)) (record { marks = same; passes = refl }))
+      none s e = (
+        grows-refl s,
+        λ untried t same.
+            rw (no-pass never hs t (sym (same-count s t same) ∙ e)) (record { marks = same; passes = refl }),
+      )
 
       idle : (s : State) → (faultyCount s ≡ 0 → ⊥) → pass read gs s ≡ s → Same s (record { cells = pass read gs s; passes = 1 })
-      idle s some e =
-          (pass-grows read gs s, λ untried t same.
-          let after = same-pass read gs hs lines s t same untried in
-          let still : faultyCount (pass never hs t) ≡ faultyCount t =
-          sym (same-count (pass read gs s) (pass never hs t) after) ∙ ap faultyCount e ∙ same-count s t same in
-          rw (last-pass never hs t (λ z. some (same-count s t same ∙ z)) still)
-          (record { marks = after; passes = refl }))
+      idle s some e = (
+        pass-grows read gs s,
+        λ untried t same.
+            let after = same-pass read gs hs lines s t same untried in
+            let still : faultyCount (pass never hs t) ≡ faultyCount t =
+            sym (same-count (pass read gs s) (pass never hs t) after) ∙ ap faultyCount e ∙ same-count s t same in
+            rw (last-pass never hs t (λ z. some (same-count s t same ∙ z)) still)
+            (record { marks = after; passes = refl }),
+      )
 
       more : (s : State) (later : Repaired) → faultyCount (pass read gs s) < faultyCount s → Same (pass read gs s) later
           → Same s (record { cells = later .cells; passes = suc (later .passes) })
-      more s later less rest =
-          (grows-trans (pass-grows read gs s) (rest .0), λ untried t same.
-          let after = same-pass read gs hs lines s t same (none-before (rest .0) untried) in
-          let exact = rest .1 untried (pass never hs t) after in
-          let count = same-count s t same in
-          let left = same-count (pass read gs s) (pass never hs t) after in
-          rw (one-more-pass never hs t (λ (z : faultyCount t ≡ 0). omega arith)
-          (λ (z : faultyCount (pass never hs t) ≡ faultyCount t). omega arith))
-          (record { marks = exact .marks; passes = ap suc (exact .passes) }))
+      more s later less rest = (
+        grows-trans (pass-grows read gs s) (rest .0),
+        λ untried t same.
+            let after = same-pass read gs hs lines s t same (none-before (rest .0) untried) in
+            let exact = rest .1 untried (pass never hs t) after in
+            let count = same-count s t same in
+            let left = same-count (pass read gs s) (pass never hs t) after in
+            rw (one-more-pass never hs t (λ (z : faultyCount t ≡ 0). omega arith)
+            (λ (z : faultyCount (pass never hs t) ≡ faultyCount t). omega arith))
+            (record { marks = exact .marks; passes = ap suc (exact .passes) }),
+      )
 
 pub forecast-exact : ForecastExact
 forecast-exact =

@@ -30,7 +30,6 @@ lines-try-nothing : (ps : List ℕ) (s : State) (ns : List ℕ) → tryLines nev
 lines-try-nothing ps s [] = refl
 lines-try-nothing ps s (n ∷ ns) = lines-try-nothing ps _ ns ∙ go (isFaulty (cellAt s n))
   where
-
     go : (b : Bool) → set s n (cond b (tryPlaces never n (cellAt s n) ps) (cellAt s n)) ≡ s
     go true = ap (set s n) (tries-nothing n (cellAt s n) ps) ∙ set-getD s n _
     go false = set-getD s n _

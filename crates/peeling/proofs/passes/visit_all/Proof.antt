@@ -1,57 +1,59 @@
+-- `peeling::passes::visit_all` meets its contract: after k turns the first k groups are visited.
+use mathlib.Core.Path.{_≡_, refl, sym, ap, subst, _∙_}
+use Prim.Native.Nat.{_+_, _-_}
+use Rattle.groups.specs.Lent.{numberOf, Within}
+use Rattle.groups.proofs.Numbers.{which-number, which-within}
+use Rattle.peeling.proofs.Passing.{Passing, passing-start, passing-next, passing-end}
 use borrow.Author.Needs.{needs}
 use native.Mathlib.Omega.{arith}
 use Rattle.peeling.proofs.passes.visit_all.Statement.{statement}
 use Rattle.peeling.proofs.passes.visit_all.Tie as tie
-use Rattle.peeling.proofs.passes.visit_all.Reads as reads
-use Rattle.peeling.proofs.passes.visit_all.Lts as lts
-use Rattle.groups.proofs.nth.Reads as nth-reads
-use Rattle.peeling.proofs.passes.visit_group.Reads as visit-group-reads
 
 abbrev Inv-loop : tie.InvT-loop
-Inv-loop marks₀ faulty₀ rows columns groups k₀ marks faulty k = ?
+Inv-loop marks₀ faulty₀ rows columns groups k₀ marks faulty k =
+    (groups ≡ rows + columns) × Passing rows columns marks₀ marks faulty k
 
 abbrev μ-loop : tie.MeasureT-loop
-μ-loop marks₀ faulty₀ rows columns groups k₀ marks faulty k = ?
+μ-loop marks₀ faulty₀ rows columns groups k₀ marks faulty k = groups - k
 
--- src/passes.rt:30:18
 add-groups : tie.Need-add-groups Inv-loop μ-loop
-add-groups c = ?
+add-groups c = omega (arith, c .before .before .pre .sides .rowsHigh, c .before .before .pre .sides .columnsHigh)
 
--- src/passes.rt:32:5
 loop-holds : tie.Need-loop-holds Inv-loop μ-loop
-loop-holds c = ?
+loop-holds c = (refl, passing-start _ _ _ _ (c .before .before .pre))
 
--- src/passes.rt:33:51
 nth-requires : tie.Need-nth-requires Inv-loop μ-loop
-nth-requires c κs = ?
+nth-requires c κs = search needs
 
--- src/passes.rt:33:9
 visit-group-requires : tie.Need-visit-group-requires Inv-loop μ-loop
-visit-group-requires c κs = ?
+visit-group-requires c κs =
+    let a = c .before .before .before .before .before .before .before .args in
+    let here = c .before .before .before .before .loop in
+    let within = which-within (a .rows) (here .k) (a .columns) (omega (arith, c .before .before .before .loop-test .taken)) in
+    (here .inv .1 .counted, subst (Within (a .rows) (a .columns)) (sym (c .nth .ensures)) within)
 
--- src/passes.rt:34:9
 add-k : tie.Need-add-k Inv-loop μ-loop
-add-k c = ?
+add-k c = omega arith
 
--- src/passes.rt:32:5
 loop-less : tie.Need-loop-less Inv-loop μ-loop
-loop-less c = ?
+loop-less c = omega arith
 
--- src/passes.rt:32:5
 loop-again : tie.Need-loop-again Inv-loop μ-loop
-loop-again c = ?
+loop-again c =
+    let a = c .before .before .before .before .before .before .before .before .before .before .before .before .args in
+    let here = c .before .before .before .before .before .before .before .before .before .loop in
+    let made = c .before .before .before .before .visit-group .ensures in
+    let number = ap (numberOf (a .rows)) (c .before .before .before .before .before .nth .ensures) ∙ which-number (a .rows) (here .k) in
+    (refl, passing-next _ _ _ _ _ _ (here .inv .1) _ _ _ (omega (arith, c .before .before .before .before .before .before .before .before .loop-test .taken)) number (made .0) (made .1))
 
--- src/passes.rt:25:1
 same-length : tie.Need-same-length Inv-loop μ-loop
-same-length c = ?
+same-length c = c .before .loop .inv .1 .counted .markBytes ∙ sym (c .before .before .before .before .pre .markBytes)
 
--- src/passes.rt:25:1
 same-length-2 : tie.Need-same-length-2 Inv-loop μ-loop
-same-length-2 c = ?
+same-length-2 c = c .before .loop .inv .1 .counted .sides .counts ∙ sym (c .before .before .before .before .pre .sides .counts)
 
--- src/passes.rt:25:1
 returns : tie.Need-returns Inv-loop μ-loop
-returns c = ?
+returns c = let here = c .before .loop .inv .1 in (passing-end _ _ _ _ _ _ here (c .loop-test .left), here .counted)
 
 pub visit-all-spec : {M : Type 1} → statement M
 visit-all-spec =
