@@ -9,6 +9,7 @@ ghost use Rattle.rectangle.specs.Tables.{TablesMade, makeTables};
 ghost use Rattle.rectangle.specs.Change.{LineChanged, changeLine};
 ghost use Rattle.rectangle.specs.Repair.{StoreRepaired, repairStore};
 ghost use Rattle.lookup.specs.Lookup.{OneRead, readOne};
+ghost use Rattle.forecast.specs.Forecast.{Forecast, forecast};
 ghost use Rattle.tour.specs.Numbers.{NumbersAdded, addNumbers, compareNumbers};
 ghost use Rattle.capi.specs.Single.{Written, writeLine, Answered, readLine};
 
@@ -215,6 +216,24 @@ pub extern "C" fn sudoku_read_one(
     *mark = one.mark;
     *step = one.step;
     one.answer
+}
+
+// What rebuilding alone would save, from a byte for each line: the marks, and the passes.
+#[no_mangle]
+pub extern "C" fn sudoku_forecast(
+    rows: usize,
+    columns: usize,
+    faulty: &[u8],
+    marks: &mut [u8],
+    passes: &mut u64,
+) -> u32
+    ensures { λ r. ⌜ _≡_ {A = Forecast}
+        (record { answer = r; passes = now (passes .exit); marks = now (marks .exit) })
+        (forecast rows columns (now (faulty .entry)) (now (marks .entry))) ⌝ }
+{
+    let foreseen = peeling::forecast(rows, columns, faulty, marks);
+    *passes = foreseen.passes as u64;
+    foreseen.answer
 }
 
 // A repair result taken into a wear report of ten numbers.
