@@ -2,7 +2,7 @@
 // lines are faulty; and the mark with which its parity line was read. A row's are reached by its RowIndex, a column's by its ColumnIndex.
 // The differences stand in the two lent tables, each direction's in its own, where `lines` reaches them; of the counts and marks no other
 // body knows where they are kept, though contracts say it: the rows' first, the columns' from number `rows` on.
-// Public for `mending`, `first_reading` and `repair`, which have tested or made what these ask; not entry points.
+// Public for `mending`, `first_reading`, `repair` and `peeling`, which have tested or made what these ask; not entry points.
 ghost use mathlib.Core.Path.{_≡_};
 ghost use mathlib.Core.Bool.{not};
 ghost use Prim.Native.Nat.{_+_, _-_, _≤_, _<_};
@@ -102,6 +102,16 @@ pub fn one_more_in_column(faulty: &mut [u16], rows: usize, column: ColumnIndex)
 {
     let k = rows + column.0;
     faulty[k] += 1;
+}
+
+// So many more of a column's lines are faulty.
+pub fn add_to_column(faulty: &mut [u16], rows: usize, column: ColumnIndex, more: u16)
+    requires { ⌜ (rows + column .0 < 1024) × (length (now faulty) ≡ 1024) × (getD (now faulty) (rows + column .0) 0 + more ≤ 1024) ⌝ }
+    ensures { λ _. ⌜ now (faulty .exit)
+        ≡ set (now (faulty .entry)) (rows + column .0) (getD (now (faulty .entry)) (rows + column .0) 0 + more) ⌝ }
+{
+    let k = rows + column.0;
+    faulty[k] += more;
 }
 
 // One less of a row's lines is faulty.

@@ -2,6 +2,7 @@
 -- visit (Visiting), a pass (Passing), all passes (Running), and the whole forecast (Foreseeing).
 pub mod Touching
 pub mod Visiting
+pub mod Counting
 pub mod Marking
 pub mod Passing
 pub mod Running

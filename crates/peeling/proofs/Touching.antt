@@ -20,7 +20,7 @@ use Rattle.groups.proofs.Numbers.{members-rising, members-few, home-row, home-c
 use Rattle.peeling.specs.Lent.{CountedBy, markedFaulty, Sides, Counted}
 
 -- no more are selected than there are
-select-few : (test : ℕ → Bool) (l : List ℕ) → length (select test l) ≤ length l
+pub select-few : (test : ℕ → Bool) (l : List ℕ) → length (select test l) ≤ length l
 select-few test [] = omega arith
 select-few test (n ∷ l) = go (test n) (select-few test l)
   where
@@ -37,29 +37,12 @@ module _ (rows columns : ℕ) (faulty : List ℕ) (sides : Sides rows columns fa
   pub some-columns : 0 < columns
   some-columns = omega (arith, sides .columnsLow)
 
-  -- a group's number is small
-  pub few : (test : ℕ → Bool) → CountedBy rows columns test faulty → (k : ℕ) → k < rows + columns → getD faulty k 0 ≤ 512
-  few test counted k h =
-      omega (
-        arith,
-        counted k h,
-        select-few test (membersOf rows columns k),
-        members-few rows columns (sides .rowsHigh) (sides .columnsHigh) k h,
-      )
-
   module _ (n : ℕ) (inside : n < rows * columns) where
     pub row-listed : n / columns < rows
     row-listed = row-below rows columns some-columns n inside
 
     pub column-listed : n % columns < columns
     column-listed = column-below rows columns some-columns n
-
-    -- the column's number is small still when the row's has changed
-    pub column-few : (test : ℕ → Bool) → CountedBy rows columns test faulty → (r c a : ℕ) (mid : List ℕ) → r ≡ n / columns → c ≡ n % columns
-        → mid ≡ set faulty r a → getD mid (rows + c) 0 ≤ 512
-    column-few test counted r c a mid er ec em =
-        rw (em, getD-set-other faulty r (rows + c) a 0 (λ (e : rows + c ≡ r). omega (arith, row-listed)))
-        (few test counted (rows + c) (omega (arith, column-listed)))
 
     -- a faulty line's groups have one
     pub counted-there : (test : ℕ → Bool) → CountedBy rows columns test faulty → test n ≡ true
@@ -73,23 +56,24 @@ module _ (rows columns : ℕ) (faulty : List ℕ) (sides : Sides rows columns fa
         some k h i =
             omega (arith, counted k h, some-there n (select test (membersOf rows columns k)) (selects test (membersOf rows columns k) n i e))
 
-    -- the tests differ for line n alone
-    module _ (before after : ℕ → Bool) (others : (m : ℕ) → (m ≡ n → ⊥) → after m ≡ before m) (counted : CountedBy rows columns before faulty) where
-      -- a group that holds the line, and one that does not
-      here : (k : ℕ) → k < rows + columns → n ∈ membersOf rows columns k → (a : ℕ)
-          → a + one-if (before n) ≡ getD faulty k 0 + one-if (after n) → a ≡ length (select after (membersOf rows columns k))
-      here k h i a e =
+    -- the tests differ for line n alone: what becomes of the number of a group that holds it, and of one that does not
+    module _ (before after : ℕ → Bool) (others : (m : ℕ) → (m ≡ n → ⊥) → after m ≡ before m) (k : ℕ) (h : k < rows + columns) where
+      pub here : n ∈ membersOf rows columns k → (old new : ℕ) → old ≡ length (select before (membersOf rows columns k))
+          → new + one-if (before n) ≡ old + one-if (after n) → new ≡ length (select after (membersOf rows columns k))
+      here i old new e f =
           omega (
             arith,
-            counted k h,
             count-changed before after n (membersOf rows columns k) (members-rising rows columns some-columns k h) i others,
           )
 
-      elsewhere : (k : ℕ) → k < rows + columns → (k ≡ n / columns → ⊥) → (k ≡ rows + n % columns → ⊥)
-          → getD faulty k 0 ≡ length (select after (membersOf rows columns k))
-      elsewhere k h p q =
-          counted k h
-          ∙ ap length (sym (select-ext after before (membersOf rows columns k) (λ m i. others m (λ e. absent (subst (λ (j : ℕ). j ∈ membersOf rows columns k) e i)))))
+      pub elsewhere : (k ≡ n / columns → ⊥) → (k ≡ rows + n % columns → ⊥) → (old : ℕ)
+          → old ≡ length (select before (membersOf rows columns k)) → old ≡ length (select after (membersOf rows columns k))
+      elsewhere p q old e =
+          e
+          ∙ ap length
+          (sym
+          (select-ext after before (membersOf rows columns k)
+          (λ m i. others m (λ e. absent (subst (λ (j : ℕ). j ∈ membersOf rows columns k) e i)))))
         where
           absent : n ∈ membersOf rows columns k → ⊥
           absent i = either (homes rows columns some-columns n k h i)
@@ -98,6 +82,7 @@ module _ (rows columns : ℕ) (faulty : List ℕ) (sides : Sides rows columns fa
               either (inl x) = p x
               either (inr x) = q x
 
+    module _ (before after : ℕ → Bool) (others : (m : ℕ) → (m ≡ n → ⊥) → after m ≡ before m) (counted : CountedBy rows columns before faulty) where
       -- with both numbers changed as the line's own test does, all are right again
       pub touched : (r c a b : ℕ) → r ≡ n / columns → c ≡ n % columns
           → a + one-if (before n) ≡ getD faulty r 0 + one-if (after n)
@@ -105,8 +90,11 @@ module _ (rows columns : ℕ) (faulty : List ℕ) (sides : Sides rows columns fa
           → CountedBy rows columns after (set (set faulty r a) (rows + c) b)
       touched r c a b er ec ea eb k h = go (ℕ-discrete k (rows + c)) (ℕ-discrete k r)
         where
-          row-in : r < rows
-          row-in = omega (arith, row-listed)
+          in-rows : r < rows + columns
+          in-rows = omega (arith, row-listed)
+
+          in-columns : rows + c < rows + columns
+          in-columns = omega (arith, column-listed)
 
           go : Dec (k ≡ rows + c) → Dec (k ≡ r)
               → getD (set (set faulty r a) (rows + c) b) k 0 ≡ length (select after (membersOf rows columns k))
@@ -114,18 +102,21 @@ module _ (rows columns : ℕ) (faulty : List ℕ) (sides : Sides rows columns fa
               subst (λ (j : ℕ). getD (set (set faulty r a) (rows + c) b) j 0 ≡ length (select after (membersOf rows columns j))) (sym p)
               (getD-set-same (set faulty r a) (rows + c) b 0
               (omega (arith, length-set faulty r a, sides .counts, sides .rowsHigh, sides .columnsHigh, column-listed))
-              ∙ here (rows + c) (omega (arith, column-listed))
-              (subst (λ (j : ℕ). n ∈ membersOf rows columns (rows + j)) (sym ec) (home-column rows columns some-columns n inside)) b eb)
+              ∙ here before after others (rows + c) in-columns
+              (subst (λ (j : ℕ). n ∈ membersOf rows columns (rows + j)) (sym ec) (home-column rows columns some-columns n inside))
+              (getD faulty (rows + c) 0) b (counted (rows + c) in-columns) eb)
           go (no d) (yes q) =
               getD-set-other (set faulty r a) (rows + c) k b 0 d
               ∙ subst (λ (j : ℕ). getD (set faulty r a) j 0 ≡ length (select after (membersOf rows columns j))) (sym q)
               (getD-set-same faulty r a 0 (omega (arith, sides .counts, sides .rowsHigh))
-              ∙ here r (omega arith)
-              (subst (λ (j : ℕ). n ∈ membersOf rows columns j) (sym er) (home-row rows columns some-columns n inside)) a ea)
+              ∙ here before after others r in-rows
+              (subst (λ (j : ℕ). n ∈ membersOf rows columns j) (sym er) (home-row rows columns some-columns n inside)) (getD faulty r 0) a
+              (counted r in-rows) ea)
           go (no d) (no q) =
               getD-set-other (set faulty r a) (rows + c) k b 0 d
               ∙ getD-set-other faulty r k a 0 q
-              ∙ elsewhere k h (λ e. q (e ∙ sym er)) (λ e. d (e ∙ ap (λ (x : ℕ). rows + x) (sym ec)))
+              ∙ elsewhere before after others k h (λ e. q (e ∙ sym er)) (λ e. d (e ∙ ap (λ (x : ℕ). rows + x) (sym ec))) (getD faulty k 0)
+              (counted k h)
 
 -- the sides stay with as many numbers
 pub same-sides : (rows columns : ℕ) (faulty faulty′ : List ℕ) → length faulty′ ≡ length faulty → Sides rows columns faulty
@@ -138,22 +129,6 @@ same-sides rows columns faulty faulty′ e s =
       columnsHigh = s .columnsHigh;
       counts = e ∙ s .counts;
     }
-
--- ---- line n is counted
-module _ (rows columns : ℕ) (faulty : List ℕ) (sides : Sides rows columns faulty) (n : ℕ) (inside : n < rows * columns)
-    (before after : ℕ → Bool) (was : before n ≡ false) (is : after n ≡ true) (others : (m : ℕ) → (m ≡ n → ⊥) → after m ≡ before m)
-    (counted : CountedBy rows columns before faulty) where
-  one-more : (a b : ℕ) → a ≡ b + 1 → a + one-if (before n) ≡ b + one-if (after n)
-  one-more a b e = rw (was, is) (omega arith)
-
-  -- first its row, then its column
-  pub line-counted : (r c x : ℕ) (mid last : List ℕ) → r ≡ n / columns → c ≡ n % columns → x ≡ getD faulty r 0 → mid ≡ set faulty r (x + 1)
-      → last ≡ set mid (rows + c) (getD mid (rows + c) 0 + 1) → CountedBy rows columns after last
-  line-counted r c x mid last er ec ex em el =
-      subst (CountedBy rows columns after)
-      (sym (el ∙ ap (λ (l : List ℕ). set l (rows + c) (getD l (rows + c) 0 + 1)) em))
-      (touched rows columns faulty sides n inside before after others counted r c _ _ er ec (one-more _ _ (ap (λ (y : ℕ). y + 1) ex))
-      (one-more _ _ (ap (λ (x : ℕ). x + 1) (getD-set-other faulty r (rows + c) _ 0 (λ (e : rows + c ≡ r). omega (arith, row-listed rows columns faulty sides n inside))))))
 
 -- ---- line n is rebuilt
 module _ (rows columns : ℕ) (marks faulty : List ℕ) (counted : Counted rows columns marks faulty) (n : ℕ) (inside : n < rows * columns)

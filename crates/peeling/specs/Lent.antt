@@ -1,6 +1,6 @@
 -- What the functions of the forecast ask of marks and counts, and what they make of the store that has these marks.
 use mathlib.Core.Path.{_≡_}
-use mathlib.Core.Bool.{Bool, not, _&&_}
+use mathlib.Core.Bool.{Bool, cond, _&&_}
 use mathlib.Core.List.{List}
 use Prim.Native.Nat.{ℕ, _+_, _*_, _≤_, _<_}
 use lib.Dec.{eqb, ltb}
@@ -20,9 +20,9 @@ CountedBy rows columns test faulty =
 abbrev pub markedFaulty : List ℕ → ℕ → Bool
 markedFaulty marks n = eqb (getD marks n 0) 4
 
--- a line is one of the first n, and the pattern has it faulty
+-- a line is one of the first n, and marked faulty
 abbrev pub faultyBefore : List ℕ → ℕ → ℕ → Bool
-faultyBefore pattern n m = ltb m n && not (eqb (getD pattern m 0) 0)
+faultyBefore marks n m = ltb m n && markedFaulty marks m
 
 -- a rectangle's sides, and room for a number for each group
 pub record Sides (rows columns : ℕ) (faulty : List ℕ) : Type 0 where
@@ -37,6 +37,10 @@ pub record Counted (rows columns : ℕ) (marks faulty : List ℕ) : Type 0 where
   pub sides : Sides rows columns faulty
   pub markBytes : length marks ≡ rows * columns
   pub each : CountedBy rows columns (markedFaulty marks) faulty
+
+-- a faulty line counts 1
+abbrev pub oneIfFaulty : ℕ → ℕ
+oneIfFaulty mark = cond (eqb mark 4) 1 0
 
 -- whatever store has these marks before, f of it has those after
 abbrev pub Becomes : (State → State) → List ℕ → List ℕ → Type 0

@@ -41,8 +41,9 @@ pub fn forecast(rows: usize, columns: usize, faulty: &[u8], marks: &mut [u8]) ->
     if answer != 0 {
         return Foreseen { answer, passes: 0 };
     }
-    let mut counts = [0u16; 1024];
-    pattern::mark_all(faulty, marks, &mut counts, rows, columns);
-    let passes = passes::run_passes(marks, &mut counts, rows, columns);
+    pattern::mark_lines(faulty, marks);
+    let mut numbers = [0u16; 1024];
+    counts::count_all(marks, &mut numbers, rows, columns);
+    let passes = passes::run_passes(marks, &mut numbers, rows, columns);
     Foreseen { answer, passes }
 }

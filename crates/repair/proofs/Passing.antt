@@ -1,15 +1,13 @@
 -- A pass over all groups, one after the other.
 use mathlib.Core.Path.{_≡_, refl, sym, ap, _∙_, subst}
 use mathlib.Core.Bool.{Bool, true, false, not, cond, true≢false, _&&_, and-eq-true-iff}
-use mathlib.Core.List.{List, map}
-use Prim.Native.Nat.{ℕ, suc, _+_, _-_, _≤_, _<_}
-use native.Mathlib.Numerals.{add-one}
+use mathlib.Core.List.{List}
+use Prim.Native.Nat.{ℕ, _+_, _≤_, _<_}
 use native.Mathlib.Omega.{arith}
 use borrow.Author.Tests.{eqb-true, not-true}
 use lib.Dec.{eqb}
 use lib.ListN.{getD}
 use Rattle.gf2.specs.Word.{Word}
-use Rattle.linecode.specs.Code.{upFrom}
 use Rattle.scheme.specs.Layer.{Reading, readLine}
 use Rattle.scheme.specs.Visit.{Group, State, settle, trial, visit}
 use Rattle.scheme.specs.Repair.{pass}
@@ -18,7 +16,7 @@ use Rattle.scheme.proofs.Parity.{nothing-to-visit}
 use Rattle.rectangle.specs.Store.{lineLayer}
 use Rattle.groups.specs.Lent.{Room, Carried, Some, Makes, Numbered, groupOf}
 use Rattle.repair.specs.Lent.{usedGroup, allGroups}
-use Rattle.groups.proofs.Walk.{all-left}
+use Rattle.groups.proofs.Passed.{Passed, passed-start, passed-next, passed-end}
 use Rattle.groups.proofs.Numbers.{any-numbered}
 use Rattle.mending.proofs.Settling.{unsettled}
 use Rattle.mending.proofs.Mismatching.{few-faulty}
@@ -35,22 +33,12 @@ pub record Passing (rows columns : ℕ) (pm out₀ marks₀ lacks₀ faulty₀ o
   pub room : Room rows columns out marks lacks faulty
   pub store : (parity : ℕ → Word) (s : State) → Carried rows columns parity out₀ marks₀ lacks₀ faulty₀ s
       → (t : State) × Carried rows columns parity out marks lacks faulty t
-      × (pass (readLine lineLayer) (allGroups rows columns pm parity) s
-      ≡ pass (readLine lineLayer) (map (usedGroup rows columns pm parity) (upFrom k (rows + columns - k))) t)
+      × Passed (readLine lineLayer) (usedGroup rows columns pm parity) (rows + columns) k s t
 
 pub passing-start : (rows columns : ℕ) (pm out marks lacks faulty : List ℕ) → Room rows columns out marks lacks faulty
     → Passing rows columns pm out marks lacks faulty out marks lacks faulty 0
-unfolding allGroups
 passing-start rows columns pm out marks lacks faulty room =
-    record {
-      few = omega arith;
-      room = room;
-      store = λ parity s h. (
-        s,
-        h,
-        ap (λ (m : ℕ). pass (readLine lineLayer) (map (usedGroup rows columns pm parity) (upFrom 0 m)) s) (all-left (rows + columns)),
-      );
-    }
+    record { few = omega arith; room = room; store = λ parity s h. (s, h, passed-start _ _ (rows + columns) s) }
 
 module _ (rows columns : ℕ) (pm out₀ marks₀ lacks₀ faulty₀ out marks lacks faulty : List ℕ) (k : ℕ)
     (p : Passing rows columns pm out₀ marks₀ lacks₀ faulty₀ out marks lacks faulty k) where
@@ -69,15 +57,9 @@ module _ (rows columns : ℕ) (pm out₀ marks₀ lacks₀ faulty₀ out marks l
             let t = p .store parity s x in (
               visit (readLine lineLayer) (usedGroup rows columns pm parity k) (t .0),
               v parity (t .0) (t .1),
-              t .2
-                  ∙ ap (λ (m : ℕ). pass (readLine lineLayer) (map (usedGroup rows columns pm parity) (upFrom k m)) (t .0)) one
-                  ∙ ap (λ (m : ℕ). pass (readLine lineLayer) (map (usedGroup rows columns pm parity) (upFrom m (rows + columns - (k + 1)))) (visit (readLine lineLayer) (usedGroup rows columns pm parity k) (t .0)))
-                  (sym (add-one k)),
+              passed-next _ _ (rows + columns) k s (t .0) h (t .2),
             );
       }
-    where
-      one : rows + columns - k ≡ suc (rows + columns - (k + 1))
-      one = omega arith
 
   -- a usable group is visited; it goes by the number j
   pub passing-next : (out′ marks′ lacks′ faulty′ : List ℕ) (j : ℕ) → k < rows + columns → j ≡ k → eqb (getD pm k 0) 4 ≡ false
@@ -113,11 +95,10 @@ module _ (rows columns : ℕ) (pm out₀ marks₀ lacks₀ faulty₀ out marks l
 
   pub passing-end : rows + columns ≤ k
       → Makes rows columns out₀ marks₀ lacks₀ faulty₀ out marks lacks faulty (λ parity. pass (readLine lineLayer) (allGroups rows columns pm parity))
+  unfolding allGroups
   passing-end h parity s x =
       let t = p .store parity s x in
-      let none : rows + columns - k ≡ 0 = omega arith in
-      subst (Carried rows columns parity out marks lacks faulty)
-      (sym (t .2 ∙ ap (λ (m : ℕ). pass (readLine lineLayer) (map (usedGroup rows columns pm parity) (upFrom k m)) (t .0)) none)) (t .1)
+      subst (Carried rows columns parity out marks lacks faulty) (sym (passed-end _ _ (rows + columns) k s (t .0) h (t .2))) (t .1)
 
 -- the same with the buffers under other names
 pub repass : (rows columns : ℕ) (pm out₀ marks₀ lacks₀ faulty₀ a b x y out marks lacks faulty : List ℕ) (k : ℕ) → a ≡ out → b ≡ marks → x ≡ lacks

@@ -16,15 +16,20 @@ same-length c = search needs
 returns : tie.Need-returns
 returns c = turned-back _ _ _ _ _ (c .before .refusal .ensures) (c .if1 .taken)
 
-slice-aggregate-mark-all : tie.Need-slice-aggregate-mark-all
-slice-aggregate-mark-all c = search needs
+mark-lines-requires : tie.Need-mark-lines-requires
+mark-lines-requires c κs =
+    let fit = sizes _ _ _ _ (sym (c .before .before .refusal .ensures) ∙ c .before .if1 .left) in
+    fit .2 ∙ sym (fit .1)
 
-mark-all-requires : tie.Need-mark-all-requires
-mark-all-requires c κs =
-    let asked = c .before .before .before .refusal .ensures in
-    let none = c .before .before .if1 .left in
+slice-aggregate-count-all : tie.Need-slice-aggregate-count-all
+slice-aggregate-count-all c = search needs
+
+count-all-requires : tie.Need-count-all-requires
+count-all-requires c κs =
+    let asked = c .before .before .before .before .before .before .before .refusal .ensures in
+    let none = c .before .before .before .before .before .before .if1 .left in
     let fit = sizes _ _ _ _ (sym asked ∙ none) in
-    ((sides-fit _ _ _ _ _ asked none _ refl, fit .1, fit .2), refl)
+    ((sides-fit _ _ _ _ _ asked none _ refl, c .before .before .before .before .mark-lines .kept .1 .0 ∙ fit .2), refl)
 
 slice-aggregate-run-passes : tie.Need-slice-aggregate-run-passes
 slice-aggregate-run-passes c = search needs
@@ -37,7 +42,7 @@ same-length-2 c = search needs
 
 returns-2 : tie.Need-returns-2
 returns-2 c =
-    foretold _ _ _ _ _ (c .before .before .before .before .before .before .before .before .before .before .before .before .before .refusal .ensures) (c .before .before .before .before .before .before .before .before .before .before .before .before .if1 .left) _ _ _ (c .before .before .before .before .before .before .before .before .before .mark-all .ensures .0) (c .before .before .before .run-passes .ensures)
+    foretold _ _ _ _ _ (c .before .before .before .before .before .before .before .before .before .before .before .before .before .before .before .refusal .ensures) (c .before .before .before .before .before .before .before .before .before .before .before .before .before .before .if1 .left) _ _ _ (c .before .before .before .before .before .before .before .before .before .before .before .before .mark-lines .ensures) (c .before .before .before .run-passes .ensures)
 
 pub forecast-spec : {M : Type 1} → statement M
 forecast-spec =
@@ -46,8 +51,9 @@ forecast-spec =
     refusal-requires
     same-length
     returns
-    slice-aggregate-mark-all
-    mark-all-requires
+    mark-lines-requires
+    slice-aggregate-count-all
+    count-all-requires
     slice-aggregate-run-passes
     run-passes-requires
     same-length-2
