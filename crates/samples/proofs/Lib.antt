@@ -1,3 +1,2 @@
--- Every starred sample follows from the rules, and so does the report.
+-- Every starred sample follows from the rules.
 pub mod Samples
-pub mod Report

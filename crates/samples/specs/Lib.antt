@@ -1,3 +1,2 @@
--- Document 01, "Sample damage": those with a star, in one table; and the report that "Store file" prints.
+-- Document 01, "Sample damage": those with a star, in one table.
 pub mod Samples
-pub mod Report

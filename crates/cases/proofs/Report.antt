@@ -21,8 +21,8 @@ use Rattle.results.specs.Marks.{countOf, countsOf, noCounts}
 use Rattle.report.specs.Report.{decimal, spaced, line, storeLine, countLines, linesAbove, reportText}
 use Rattle.report.specs.Program.{zeroBuffers}
 use Rattle.report.specs.Check.{refusedWith, repairOpened, counted, checkStore}
-use Rattle.samples.specs.Samples.{sameBytes}
-use Rattle.samples.specs.Report.{ZeroStoreReport}
+use Rattle.sampling.specs.Rows.{sameBytes}
+use Rattle.cases.specs.Report.{ZeroStoreReport}
 
 same-bytes : (x y : List ℕ) → T (sameBytes x y) → x ≡ y
 same-bytes [] [] t = refl

@@ -1,0 +1,3 @@
+-- Every case follows from the rules, and so does the report.
+pub mod Cases
+pub mod Report

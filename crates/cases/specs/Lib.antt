@@ -1,0 +1,3 @@
+-- Cases beside the starred samples; and the report that "Store file" prints.
+pub mod Cases
+pub mod Report
