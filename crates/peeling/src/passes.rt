@@ -44,11 +44,12 @@ pub fn run_passes(marks: &mut [u8], faulty: &mut [u16], rows: usize, columns: us
     let mut before = groups::count_faulty(rows, faulty);
     while 0 < before {
         visit_all(marks, faulty, rows, columns);
-        passes += 1;
+        let made = passes + 1;
         let left = groups::count_faulty(rows, faulty);
         if left == before {
-            return passes;
+            return made;
         }
+        passes = made;
         before = left;
     }
     passes

@@ -52,4 +52,4 @@ hurtFour = hurtAt (0 ∷ 1 ∷ []) ∷ hurtAt (2 ∷ 3 ∷ []) ∷ hurtAt (0 ∷
 
 pub record TrialsSaveMore : Type 0 where
   pub repaired : marksOf (repair (readZero 5) twoByTwo hurtFour .cells) ≡ 2 ∷ 2 ∷ 2 ∷ 2 ∷ []
-  pub forecast : marksOf (foreseen twoByTwo (1 ∷ 1 ∷ 1 ∷ 1 ∷ []) .cells) ≡ 4 ∷ 4 ∷ 4 ∷ 4 ∷ []
+  pub forecast : marksOf (foreseen twoByTwo (1 ∷ 2 ∷ 4 ∷ 255 ∷ []) .cells) ≡ 4 ∷ 4 ∷ 4 ∷ 4 ∷ []

@@ -23,8 +23,8 @@ loop-holds c = running-start _ _ _ _ _ (c .before .before .before .before .pre) 
 visit-all-requires : tie.Need-visit-all-requires Inv-loop μ-loop
 visit-all-requires c κs = c .before .before .before .loop .inv .counted
 
-add-passes : tie.Need-add-passes Inv-loop μ-loop
-add-passes c =
+add-made : tie.Need-add-made Inv-loop μ-loop
+add-made c =
     let here = c .before .before .before .before .before .before .before .before .loop .inv in
     let sides = here .counted .sides in
     omega (arith, here .bound, c .before .before .before .before .before .before .before .loop-test .taken, mul-le-mul-right (c .before .before .before .before .before .before .before .before .before .before .before .before .before .args .columns) (sides .rowsHigh), sides .columnsHigh)
@@ -71,7 +71,7 @@ run-passes-spec =
     count-faulty-requires
     loop-holds
     visit-all-requires
-    add-passes
+    add-made
     count-faulty-requires-2
     same-length
     same-length-2
