@@ -38,8 +38,8 @@
  * - The four buffers that sudoku_read_one borrows are no result: after 0 and 11 they hold zeros, which are a valid store of empty
  *   captions. Hand in none whose content is still needed.
  * - Where only the list of faulty lines is at hand, sudoku_forecast tells which of them rebuilding alone would leave. Lines are faulty
- *   for it if sudoku_read_line answers 10. The marks of a repair are no such list, since lines with mark 1 read alone: those with 2, 3
- *   and 4 were faulty.
+ *   for it if sudoku_read_line answers 10. The marks of a repair are no such list, since a line with mark 1 was accepted alone: those
+ *   with 2, 3 and 4 were faulty.
  * - After SUDOKU_ROW_PARITY (13) or SUDOKU_COLUMN_PARITY (14), which only a change gives, repair the store: after 0 lines and tables
  *   agree, and any line can be changed. Or load that table anew. The row is tested first: with 13 the column's may be bad too.
  * - Lines and tables of zero bytes are a valid store, all lines and parity lines correct. Memory that was cleared cannot be told
@@ -126,7 +126,7 @@ enum sudoku_answer {
 
 /* Marks: what became of a line. Reading alone gives 0, 1 or 4, a forecast 0, 3 or 4. */
 enum sudoku_mark {
-    SUDOKU_MARK_CLEAN = 0,     /* correct as found (its spare bits do not count) */
+    SUDOKU_MARK_CLEAN = 0,     /* correct as found (its spare bits do not count); in a forecast: whole, as a rewritten line is too */
     SUDOKU_MARK_REWRITTEN = 1, /* accepted, and rewritten: a bit of data or check was flipped, or Hamming bits were changed */
     SUDOKU_MARK_TRIAL = 2,     /* mended by trial: one bit was flipped where the line's row or column does not sum up */
     SUDOKU_MARK_REBUILT = 3,   /* rebuilt from the parity line and the other lines of its row or column */
@@ -241,18 +241,21 @@ uint32_t sudoku_read_one(size_t rows, size_t columns, const uint8_t *lines, size
                          uint8_t *line, size_t line_len, uint8_t *mark, uint32_t *step);
 
 /*
- * Tells what rebuilding alone would save, without any line's bytes. `faulty` has a byte for each line: 0 if the line is whole, anything
- * else if it is faulty after the first reading. Rows and columns are visited as repair does, in as many passes as it takes, and a
- * faulty line is rebuilt where it is the only one of its row or column. Nothing is tried, and all parity lines count as usable.
+ * Tells what rebuilding alone would save, without any line's bytes. `faulty` has a byte for each line: 0 if the line is whole, any other,
+ * no matter which, if it is faulty after the first reading. Rows and columns are visited as repair does, in as many passes as it
+ * takes, and a faulty line is rebuilt where it is the only one of its row or column. Nothing is tried, and all parity lines count as
+ * usable.
  *
- * Writes a mark for each line into `marks` (rows * columns bytes): 0 whole, 3 rebuilt, 4 faulty. Sets `passes`: 0 if no line is faulty,
- * and never more than the lines that are. A pass that rebuilds nothing is the last, and counts. `faulty` stays as it is.
+ * Writes a mark for each line into `marks` (rows * columns bytes): 0 whole, 3 rebuilt, 4 faulty. Those with mark 4 are the largest part
+ * of the faulty lines of which no row and no column holds exactly one. Sets `passes`: 0 if no line is faulty, and never more than the
+ * lines that are. A pass that rebuilds nothing is the last, and counts. `faulty` stays as it is.
  *
- * The marks are a bound. Of a store with these faulty lines, whatever all lines hold, whose parity lines are all accepted,
- * sudoku_repair leaves no more lines faulty than have mark 4 here, and only such lines. If no trial takes in that repair, it gives
- * exactly these marks, but for a 1 where a whole line was rewritten, and these passes. Trials may save more lines, in more passes or
- * fewer: the passes are no bound. Where some parity line is not accepted, repair may leave more lines faulty. Of more faulty lines the
- * forecast leaves at least those that it leaves of fewer: a list that names lines needlessly still gives a bound.
+ * The marks are a bound. If `faulty` names every faulty line of a store, perhaps others besides, and all parity lines of that store are
+ * accepted, then each line that sudoku_repair leaves with mark 4 has mark 4 here, and so there are no more of them. If it names just the
+ * faulty lines and no trial takes in that repair (no line has mark 2), repair gives exactly these marks, but for a 1 where a whole line
+ * was rewritten, and these passes. Trials may save more lines, in more passes or fewer: the passes are no bound. Where some parity line
+ * is not accepted, repair may leave more lines faulty. With further lines named besides, the forecast leaves at least the same lines: a
+ * list that names some needlessly still gives a bound. That lines and tables disagree (12) no forecast tells.
  *
  * Answers: 0, also where lines stay faulty: never 11. 2; 7 if `faulty_len` or `marks_len` is not rows * columns. With both refusals
  * `passes` is 0.

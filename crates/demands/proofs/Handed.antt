@@ -14,6 +14,7 @@ use Rattle.scheme.specs.Visit.{Group, State, cellAt, lineAt, isFaulty, select}
 use Rattle.scheme.specs.Repair.{readAll, faultyCount, linesOf, marksOf}
 use Rattle.scheme.specs.Sound.{AllPlaces}
 use Rattle.scheme.specs.Demand3.{_∈_}
+use Rattle.scheme.proofs.Lists.{count-map}
 use Rattle.scheme.proofs.Sound.{left-places}
 use Rattle.scheme.proofs.Passes.{repair-passes-none, repair-passes-bound}
 use Rattle.scheme.proofs.Stays.{first-reading-at, repair-stays, repair-length, faulty-as-found}
@@ -27,17 +28,6 @@ use Rattle.rectangle.proofs.Groups.{sides, by-groups, rising-groups, groups-ins
 use Rattle.rectangle.proofs.Spare.{places-lineOf}
 use Rattle.demands.proofs.Refused.{handed, sizes}
 use Rattle.demands.proofs.TableLines.{in-range}
-
--- counting those of an image that pass a test
-count-map : (cell : ℕ → Cell) (ns : List ℕ) → faultyCount (map cell ns) ≡ length (select (λ n. isFaulty (cell n)) ns)
-count-map cell [] = refl
-count-map cell (n ∷ ns) = go (isFaulty (cell n)) (count-map cell ns)
-  where
-    go : (b : Bool) → faultyCount (map cell ns) ≡ length (select (λ n. isFaulty (cell n)) ns)
-        → length (cond b (cell n ∷ select isFaulty (map cell ns)) (select isFaulty (map cell ns)))
-        ≡ length (cond b (n ∷ select (λ m. isFaulty (cell m)) ns) (select (λ m. isFaulty (cell m)) ns))
-    go true e = ap suc e
-    go false e = e
 
 -- ---- line n of the buffers handed over
 module _ (s : State) (n : ℕ) (inside : n < length s) where
@@ -61,7 +51,7 @@ module _ (r : Rectangle) where
 
   first-count : faultyCount (readAll (readLine lineLayer) 0 found) ≡ faultyAlone r
   unfolding found linesIn faultyAlone
-  first-count = ap faultyCount (read-from (r .lines) 0 (count r)) ∙ count-map (aloneAt (r .lines)) (upFrom 0 (count r))
+  first-count = ap faultyCount (read-from (r .lines) 0 (count r)) ∙ count-map (aloneAt (r .lines)) isFaulty (upFrom 0 (count r))
 
   steps-passes : PassesOf r (stepsOn r .passes)
   unfolding found repairedBy

@@ -14,7 +14,7 @@ use Rattle.scheme.specs.Repair.{Repaired, linesOf, marksOf}
 use Rattle.scheme.specs.Parity.{parityAfter}
 use Rattle.scheme.specs.Marks as Scheme
 use Rattle.scheme.specs.Readings.{SameRepair}
-use Rattle.scheme.proofs.Marking.{repair-marks-tell}
+use Rattle.scheme.proofs.Marking.{mark-at, repair-marks-tell}
 use Rattle.scheme.proofs.Readings.{same-faulty, acceptedMarksDecideNothing}
 use Rattle.rectangle.specs.Store.{lineLayer, placesAt, linesIn, bufferOf, aloneAt, groups}
 use Rattle.rectangle.specs.Before.{layerBefore}
@@ -87,9 +87,6 @@ linesReadAsBefore lines n =
     let same = as-before (lineLayer .address n) (placesAt lines n) in (same .line, same-faulty same)
 
 -- what the steps hand over, by two readings that agree
-mark-at : (s : State) (n : ℕ) → getD (marksOf s) n 0 ≡ cellAt s n .mark
-mark-at s n = List·getD-map (λ (c : Cell). c .mark) s n (record { line = []; mark = 0 })
-
 same-table : (gs : List Group) (s t : State) → ((g : Group) → parityAfter layerBefore s g ≡ parityAfter lineLayer t g)
     → tableAfter layerBefore s gs ≡ tableAfter lineLayer t gs
 unfolding tableAfter

@@ -14,8 +14,9 @@ use lib.Seq.{getD-set-same, getD-set-other, getD-at}
 use Rattle.gf2.specs.Word.{Word, _⊕_}
 use Rattle.linecode.specs.Places.{linePlaces, places, lineOf, xorBytes}
 use Rattle.scheme.specs.Layer.{Cell}
-use Rattle.scheme.specs.Visit.{State, cellAt, lineAt, isFaulty, select}
+use Rattle.scheme.specs.Visit.{State, cellAt, lineAt, isFaulty}
 use Rattle.scheme.specs.Demand3.{_∈_}
+use Rattle.scheme.proofs.Lists.{select-few}
 use Rattle.rectangle.specs.Store.{bytesAt, placesAt, putBytes, aloneAt, stride, row, column}
 use Rattle.rectangle.proofs.Buffer.{length-placesAt}
 use Rattle.rectangle.proofs.Groups.{row-number, column-number, line-inside}
@@ -31,14 +32,6 @@ use Rattle.first_reading.specs.Lent.{readFirst, RowOpen, Piece, SomePiec
 use Rattle.first_reading.proofs.FirstReading.{length-readFirst, one-more, begun-line, begun-mark}
 
 -- ---- numbers of faulty lines are small
-select-few : (f : ℕ → Bool) (l : List ℕ) → length (select f l) ≤ length l
-select-few f [] = omega arith
-select-few f (n ∷ l) = go (f n) (select-few f l)
-  where
-    go : (b : Bool) → length (select f l) ≤ length l → length (cond b (n ∷ select f l) (select f l)) ≤ suc (length l)
-    go true h = omega arith
-    go false h = omega arith
-
 count-few : (rows columns : ℕ) (parity : ℕ → Word) (s : State) (line : List ℕ) (count k : ℕ) → rows ≤ 512 → columns ≤ 512 → k < rows + columns
     → Beside (groupOf rows columns parity k) s line count → count ≤ 512
 count-few rows columns parity s line count k rh ch h b =

@@ -1,4 +1,4 @@
--- What a forecast gives: its marks and passes, its end, and that more faults leave more.
+-- What a forecast gives: its marks and passes, its end, and that only zeros count and more faults leave more.
 use mathlib.Core.Path.{_≡_, refl, sym, ap, _∙_}
 use mathlib.Core.Logic.{_⊎_, _↔_, inl, inr}
 use mathlib.Core.Bool.{Bool, true, false, not, cond, true≢false}
@@ -8,20 +8,23 @@ use native.Mathlib.Omega.{arith}
 use borrow.Author.Tests.{eqb-true, ne-eqb}
 use lib.Dec.{eqb}
 use lib.ListN.{length, getD, length-map, List·getD-map}
+use lib.Seq.{ext-getD}
 use Rattle.scheme.specs.Layer.{Cell}
-use Rattle.scheme.specs.Visit.{Group, State, cellAt, isFaulty, select}
+use Rattle.scheme.specs.Visit.{Group, State, cellAt, isFaulty, faultyOf}
 use Rattle.scheme.specs.Repair.{faultyCount, passesFrom, marksOf}
 use Rattle.scheme.specs.Demand3.{_∈_}
-use Rattle.scheme.specs.Forecast.{never, flagged, foreseen, FaultyWithin, Bounds}
-use Rattle.scheme.proofs.Lists.{select-ext}
+use Rattle.scheme.specs.Forecast as Scheme
+use Rattle.scheme.specs.Forecast.{never, flagged, foreseen, FaultyWithin, Bounds, Ends}
+use Rattle.scheme.proofs.Lists.{select-ext, count-map}
 use Rattle.scheme.proofs.Grows.{grows-length}
 use Rattle.scheme.proofs.Passes.{passes-grow, passes-none, passes-bound}
 use Rattle.scheme.proofs.Every.{every-passes}
-use Rattle.scheme.proofs.Within.{forecast-bounds, forecasts-end}
-use Rattle.rectangle.specs.Store.{rowGroup, columnGroup}
-use Rattle.rectangle.proofs.Groups.{sides, row-listed, column-listed}
-use Rattle.forecast.specs.Forecast.{bareGroups, foreseenIn}
-use Rattle.forecast.specs.Promises.{faultyBytes, ForecastGives, faultyMarks, WithinMarks, MoreFaultsLeaveMore, faultyIn, ForecastEndsLast}
+use Rattle.scheme.proofs.Marking.{mark-at}
+use Rattle.scheme.proofs.Within.{forecast-bounds, forecast-ends}
+use Rattle.rectangle.specs.Store.{row, column, rowGroup, columnGroup}
+use Rattle.rectangle.proofs.Groups.{sides, row-listed, column-listed, by-groups}
+use Rattle.forecast.specs.Forecast.{bareGroups, foreseenIn, oneForEach, forecastRefusal, forecast}
+use Rattle.forecast.specs.Promises.{faultyBytes, ForecastGives, OnlyZerosCount, faultyMarks, WithinMarks, MoreFaultsLeaveMore, faultyIn, StoppingSet, ForecastLeavesLargest}
 use Rattle.forecast.proofs.Answers.{given, fits}
 
 -- ---- a byte and its line, and a store's marks
@@ -30,24 +33,8 @@ pub byte-faulty : (byte : ℕ) → (flagged byte .mark ≡ 4) ↔ (byte ≡ 0 �
 byte-faulty zero = (λ e z. omega arith, λ d. absurd (d refl))
 byte-faulty (suc b) = (λ e z. omega arith, λ d. rw (ne-eqb (suc b) 0 d))
 
--- mark n of a store is that of its line n
-pub mark-at : (s : State) (n : ℕ) → getD (marksOf s) n 0 ≡ cellAt s n .mark
-mark-at s n = List·getD-map (λ (c : Cell). c .mark) s n (record { line = []; mark = 0 })
-
 pub byte-at : (pattern : List ℕ) (n : ℕ) → getD (marksOf (map flagged pattern)) n 0 ≡ flagged (getD pattern n 0) .mark
 byte-at pattern n = mark-at (map flagged pattern) n ∙ ap (λ (c : Cell). c .mark) (List·getD-map flagged pattern n 0)
-
--- counting those of an image that pass a test
-count-map : {A B : Type 0} (f : A → B) (test : B → Bool) (l : List A)
-    → length (select test (map f l)) ≡ length (select (λ a. test (f a)) l)
-count-map f test [] = refl
-count-map {A} {B} f test (a ∷ l) = go (test (f a)) (count-map f test l)
-  where
-    go : (b : Bool) → length (select test (map f l)) ≡ length (select (λ a. test (f a)) l)
-        → length (cond b (f a ∷ select test (map f l)) (select test (map f l)))
-        ≡ length (cond b (a ∷ select (λ a. test (f a)) l) (select (λ a. test (f a)) l))
-    go true e = ap suc e
-    go false e = e
 
 -- the marks 4 are the faulty lines, and the bytes other than 0 too
 marks-count : (s : State) → faultyMarks (marksOf s) ≡ faultyCount s
@@ -116,14 +103,47 @@ forecast-gives rows columns pattern marks e =
     left : State
     left = passesFrom never gs first .cells
 
+-- ---- only zeros count
+flagged-same : (one two : ℕ) → (one ≡ 0) ↔ (two ≡ 0) → flagged one ≡ flagged two
+flagged-same zero two so = rw (so .0 refl)
+flagged-same (suc b) zero so = let z : ⊥ = omega (arith, so .1 refl) in absurd z
+flagged-same (suc b) (suc c) so = rw (ne-eqb (suc b) 0 (λ e. omega arith), ne-eqb (suc c) 0 (λ e. omega arith))
+
+pub only-zeros-count : OnlyZerosCount
+unfolding forecast forecastRefusal oneForEach foreseenIn foreseen
+only-zeros-count rows columns one two marks e so = rw (e, same)
+  where
+    same : map flagged one ≡ map flagged two
+    same =
+        ext-getD (flagged 0) _ _ (length-map one flagged ∙ e ∙ sym (length-map two flagged))
+        (λ n h. List·getD-map flagged one n 0 ∙ flagged-same _ _ (so n) ∙ sym (List·getD-map flagged two n 0))
+
 -- ---- its end
-pub forecast-ends-last : ForecastEndsLast
+-- a store with given marks, and that its groups hold as many faulty lines as the marks say
+marked : List ℕ → State
+marked marks = map (λ mark. record { line = []; mark = mark }) marks
+
+marked-at : (marks : List ℕ) (n : ℕ) → cellAt (marked marks) n .mark ≡ getD marks n 0
+unfolding marked
+marked-at marks n = ap (λ (c : Cell). c .mark) (List·getD-map (λ mark. record { line = []; mark = mark }) marks n 0)
+
+faulty-in : (marks : List ℕ) (s : State) → ((n : ℕ) → cellAt s n .mark ≡ getD marks n 0) → (ms : List ℕ)
+    → length (faultyOf s ms) ≡ faultyIn marks ms
+faulty-in marks s same ms = ap length (select-ext _ _ ms (λ n j. ap (λ mark. eqb mark 4) (same n)))
+
+pub forecast-leaves-largest : ForecastLeavesLargest
 unfolding foreseenIn foreseen bareGroups
-forecast-ends-last rows columns pattern marks e =
+forecast-leaves-largest rows columns pattern marks e =
     rw (given rows columns pattern marks e)
     (record {
-      eachRow = λ k h. alone (rowGroup columns [] k) (row-listed rows columns some [] [] k h);
-      eachColumn = λ k h. alone (columnGroup rows columns [] k) (column-listed rows columns some [] [] k h);
+      stopping =
+          record {
+            eachRow = λ k h. alone (rowGroup columns [] k) (row-listed rows columns some [] [] k h);
+            eachColumn = λ k h. alone (columnGroup rows columns [] k) (column-listed rows columns some [] [] k h);
+          };
+      largest = λ part stopping within n f.
+          mark-at left n
+          ∙ ends .largest (marked part) (groups-stop part stopping) (parts-within part within) n (marked-at part n ∙ f);
     })
   where
     left : State
@@ -132,10 +152,22 @@ forecast-ends-last rows columns pattern marks e =
     some : 0 < columns
     some = omega (arith, sides rows columns (fits rows columns pattern marks e .0) .columnsLow)
 
+    ends : Ends (bareGroups rows columns) (map flagged pattern) left
+    ends = forecast-ends (bareGroups rows columns) (map flagged pattern)
+
     alone : (g : Group) → g ∈ bareGroups rows columns → faultyIn (marksOf left) (g .members) ≡ 1 → ⊥
-    alone g i one =
-        forecasts-end (bareGroups rows columns) (map flagged pattern) .noneAlone g i
-        (sym (ap length (select-ext _ _ (g .members) (λ n j. ap (λ mark. eqb mark 4) (mark-at left n)))) ∙ one)
+    alone g i one = ends .stopping g i (faulty-in (marksOf left) left (λ n. sym (mark-at left n)) (g .members) ∙ one)
+
+    groups-stop : (part : List ℕ) → StoppingSet rows columns part → Scheme.StoppingSet (bareGroups rows columns) (marked part)
+    groups-stop part stopping =
+        by-groups rows columns some [] [] (λ g. length (faultyOf (marked part) (g .members)) ≡ 1 → ⊥)
+        (λ k h one. stopping .eachRow k h (sym (faulty-in part (marked part) (marked-at part) (row columns k)) ∙ one))
+        (λ k h one. stopping .eachColumn k h (sym (faulty-in part (marked part) (marked-at part) (column rows columns k)) ∙ one))
+
+    parts-within : (part : List ℕ) → ((n : ℕ) → getD part n 0 ≡ 4 → getD pattern n 0 ≡ 0 → ⊥) → FaultyWithin (marked part) (map flagged pattern)
+    parts-within part within n f =
+        ap (λ (c : Cell). c .mark) (List·getD-map flagged pattern n 0)
+        ∙ byte-faulty (getD pattern n 0) .1 (within n (sym (marked-at part n) ∙ f))
 
 -- ---- more faults
 -- the scheme's bound, of the marks

@@ -1,6 +1,6 @@
 -- Request Q-6, "What would rebuilding alone save?": one byte for each line is read, and a mark for each line written.
 use mathlib.Core.Bool.{Bool, cond, _&&_}
-use mathlib.Core.List.{List, []}
+use mathlib.Core.List.{List, [], _∷_}
 use Prim.Native.Nat.{ℕ, _*_}
 use lib.Dec.{eqb}
 use lib.ListN.{length}
@@ -27,6 +27,10 @@ unfoldable pub forecastRefusal : ℕ → ℕ → List ℕ → List ℕ → ℕ
 forecastRefusal rows columns pattern marks =
     unless (sidesFit rows columns) 2
     (unless (oneForEach rows columns pattern && oneForEach rows columns marks) 7 0)
+
+-- the answers that a forecast may give: 0 and its refusals
+abbrev pub forecastAnswers : List ℕ
+forecastAnswers = 0 ∷ 2 ∷ 7 ∷ []
 
 -- what a forecast answers, its passes, and the marks as it leaves them
 pub record Forecast : Type 0 where

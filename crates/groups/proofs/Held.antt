@@ -14,17 +14,13 @@ use Rattle.scheme.specs.Layer.{Cell}
 use Rattle.scheme.specs.Visit.{State, cellAt, lineAt, select, faultyOf}
 use Rattle.scheme.specs.Repair.{linesOf}
 use Rattle.scheme.specs.Demand3.{wordAt}
+use Rattle.scheme.proofs.Lists.{map-set}
 use Rattle.rectangle.specs.Store.{bytesAt, bufferOf, putBytes, putLine}
 use Rattle.rectangle.proofs.Buffer.{bytesAt-bufferOf, putLine-bufferOf}
 use Rattle.groups.specs.Lent.{Holding, faultyAmong}
 
 line-of : (s : State) (n : ℕ) → wordAt (linesOf s) n ≡ lineAt s n
 line-of s n = List·getD-map (λ c. c .line) s n (record { line = []; mark = 0 })
-
-map-set : {A : Type 0} (f : Cell → A) (s : State) (n : ℕ) (c : Cell) → map f (set s n c) ≡ set (map f s) n (f c)
-map-set f [] n c = refl
-map-set f (d ∷ s) zero c = refl
-map-set {A} f (d ∷ s) (suc n) c = ap (λ (l : List A). f d ∷ l) (map-set f s n c)
 
 module _ (out marks : List ℕ) (s : State) (h : Holding out marks s) where
   pub held-count : length marks ≡ length s

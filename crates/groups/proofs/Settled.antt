@@ -17,16 +17,6 @@ use Rattle.scheme.proofs.Lists.{selected}
 use Rattle.scheme.proofs.Sums.{sum-split}
 use Rattle.groups.specs.Lent.{faultyAmong}
 
--- none or several are left as they are
-pub not-one : (g : Group) (s : State) → (length (faultyOf s (g .members)) ≡ 1 → ⊥) → settle g s ≡ s
-unfolding settle
-not-one g s h = go (faultyOf s (g .members)) h
-  where
-    go : (l : List ℕ) → (length l ≡ 1 → ⊥) → rebuildOnly g s l ≡ s
-    go [] k = refl
-    go (n ∷ []) k = absurd (k refl)
-    go (n ∷ m ∷ l) k = refl
-
 -- a list of one, by its first
 one-only : (l : List ℕ) → length l ≡ 1 → l ≡ getD l 0 0 ∷ []
 one-only [] e = let z : ⊥ = omega arith in absurd z

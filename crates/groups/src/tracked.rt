@@ -105,8 +105,8 @@ pub fn one_more_in_column(faulty: &mut [u16], rows: usize, column: ColumnIndex)
 }
 
 // So many more of a column's lines are faulty.
-pub fn add_to_column(faulty: &mut [u16], rows: usize, column: ColumnIndex, more: u16)
-    requires { ⌜ (rows + column .0 < 1024) × (length (now faulty) ≡ 1024) × (getD (now faulty) (rows + column .0) 0 + more ≤ 1024) ⌝ }
+pub fn more_in_column(faulty: &mut [u16], rows: usize, column: ColumnIndex, more: u16)
+    requires { ⌜ (rows + column .0 < 1024) × (length (now faulty) ≡ 1024) × (getD (now faulty) (rows + column .0) 0 + more < 65536) ⌝ }
     ensures { λ _. ⌜ now (faulty .exit)
         ≡ set (now (faulty .entry)) (rows + column .0) (getD (now (faulty .entry)) (rows + column .0) 0 + more) ⌝ }
 {

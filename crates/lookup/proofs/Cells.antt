@@ -22,19 +22,13 @@ use Rattle.scheme.proofs.OneLine.{visit-local, stops-early}
 use Rattle.rectangle.specs.Store.{lineLayer, bytesAt, linesIn, aloneAt, row, rowGroup, rowGroups, columnGroups, groups}
 use Rattle.rectangle.specs.Refusals.{sidesFit, repairRefusal}
 use Rattle.rectangle.specs.Repair.{usedGroups, repairedBy, repaired, Buffers, handedOver}
+use Rattle.rectangle.proofs.Alone.{first-at}
 use Rattle.rectangle.proofs.Buffer.{length-linesIn, linesIn-at}
 use Rattle.rectangle.proofs.Groups.{sides, in-row, row-number, row-inside, row-below}
 use Rattle.rectangle.proofs.Members.{upFrom-bounds, upFrom-split}
 use Rattle.rectangle.proofs.Runs.{repair-runs}
 use Rattle.demands.proofs.Handed.{line-handed, mark-handed}
 use Rattle.lookup.specs.Lookup.{afterRow, repairIn}
-
--- a line after the first reading is as it reads alone
-first-at : (k : ℕ) (lines : List ℕ) (n : ℕ) → n < k → cellAt (readAll (readLine lineLayer) 0 (linesIn k lines)) n ≡ aloneAt lines n
-unfolding aloneAt
-first-at k lines n h =
-    first-reading-at (readLine lineLayer) (linesIn k lines) n (omega (arith, length-linesIn k lines))
-    ∙ ap (readLine lineLayer n) (linesIn-at k lines n h)
 
 -- the lines of a group as read are among its lines
 read-members : (g : Group) (n : ℕ) → n ∈ asRead lineLayer g .members → n ∈ g .members

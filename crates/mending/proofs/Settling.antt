@@ -13,7 +13,8 @@ use Rattle.rectangle.proofs.Spare.{places-lineOf}
 use Rattle.groups.specs.Lent.{Room, Carried, Some, Inside, Numbered, faultyAmong, membersOf, groupOf}
 use Rattle.groups.proofs.Numbers.{members-rising, members-inside}
 use Rattle.groups.proofs.Held.{held-count, held-faulty, held-bytes}
-use Rattle.groups.proofs.Settled.{not-one, only-faulty-line, only-member, rebuilt-word, settled, rebuilt-is, rebuilt-long}
+use Rattle.scheme.proofs.Steps.{not-one}
+use Rattle.groups.proofs.Settled.{only-faulty-line, only-member, rebuilt-word, settled, rebuilt-is, rebuilt-long}
 
 pub still-inside : (first step count k m : ℕ) → m ≡ k → Inside first step count k → Inside first step count m
 still-inside first step count k m e i = subst (Inside first step count) (sym e) i

@@ -13,7 +13,7 @@ use lib.ListN.{length, getD, set, replicate, getD-replicate, length-set}
 use lib.Seq.{getD-set-same, getD-set-other}
 use Rattle.scheme.specs.Visit.{select}
 use Rattle.scheme.specs.Demand3.{_∈_}
-use Rattle.scheme.proofs.Lists.{select-ext}
+use Rattle.scheme.proofs.Lists.{select-ext, select-few}
 use Rattle.rectangle.specs.Store.{row, column}
 use Rattle.rectangle.proofs.Groups.{row-number, column-number, line-inside}
 use Rattle.rectangle.proofs.Stride.{in-stride, stride-index}
@@ -21,7 +21,7 @@ use Rattle.groups.specs.Lent.{membersOf}
 use Rattle.groups.proofs.Beside.{one-if}
 use Rattle.groups.proofs.Numbers.{row-of, column-of, members-few, members-inside}
 use Rattle.peeling.specs.Lent.{CountedBy, markedFaulty, faultyBefore, Sides, Counted, oneIfFaulty}
-use Rattle.peeling.proofs.Touching.{select-few, some-columns, here, elsewhere, same-sides}
+use Rattle.peeling.proofs.Touching.{some-columns, here, elsewhere, same-sides}
 
 none-selected : (test : ℕ → Bool) (l : List ℕ) → ((m : ℕ) → m ∈ l → test m ≡ false) → select test l ≡ []
 none-selected test [] h = refl

@@ -5,10 +5,10 @@ use Prim.Native.Nat.{ℕ, _+_, _*_, _≤_, _<_}
 use native.Mathlib.Omega.{arith}
 use lib.ListN.{length, length-map}
 use Rattle.scheme.specs.Layer.{Cell}
-use Rattle.scheme.specs.Visit.{State}
+use Rattle.scheme.specs.Visit.{State, isFaulty}
 use Rattle.scheme.specs.Repair.{faultyCount, pass, marksOf}
 use Rattle.scheme.specs.Forecast.{never}
-use Rattle.scheme.proofs.Grows.{faulty-few}
+use Rattle.scheme.proofs.Lists.{select-few}
 use Rattle.scheme.proofs.Running.{Reached, reached-start, reached-end, reached-idle, reached-less, reached-next}
 use Rattle.groups.specs.Lent.{countTo, membersOf}
 use Rattle.groups.proofs.Counts.{rows-together}
@@ -52,7 +52,7 @@ running-start rows columns marks faulty f counted q =
             arith,
             together rows columns marks faulty counted (some-store marks) (has-marks marks),
             size rows columns marks faulty counted (some-store marks) (has-marks marks),
-            faulty-few (some-store marks),
+            select-few isFaulty (some-store marks),
           );
       store = λ s e. (s, e, reached-start never (bareGroups rows columns) s f (q ∙ together rows columns marks faulty counted s e));
     }

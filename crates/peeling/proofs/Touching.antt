@@ -19,15 +19,6 @@ use Rattle.groups.proofs.Beside.{one-if, count-changed}
 use Rattle.groups.proofs.Numbers.{members-rising, members-few, home-row, home-column, homes}
 use Rattle.peeling.specs.Lent.{CountedBy, markedFaulty, Sides, Counted}
 
--- no more are selected than there are
-pub select-few : (test : ℕ → Bool) (l : List ℕ) → length (select test l) ≤ length l
-select-few test [] = omega arith
-select-few test (n ∷ l) = go (test n) (select-few test l)
-  where
-    go : (b : Bool) → length (select test l) ≤ length l → length (cond b (n ∷ select test l) (select test l)) ≤ suc (length l)
-    go true h = omega arith
-    go false h = omega arith
-
 -- a list with a member is not empty
 some-there : (n : ℕ) (l : List ℕ) → n ∈ l → 0 < length l
 some-there n [] i = absurd i

@@ -8,15 +8,15 @@ use lib.ListN.{length, getD, set, List·getD-map}
 use Rattle.scheme.specs.Layer.{Cell}
 use Rattle.scheme.specs.Visit.{Group, State, cellAt, isFaulty, select, faultyOf}
 use Rattle.scheme.specs.Repair.{marksOf}
-use Rattle.scheme.proofs.Lists.{select-ext}
+use Rattle.scheme.proofs.Lists.{select-ext, map-set}
 use Rattle.scheme.proofs.Within.{only-settles}
-use Rattle.scheme.proofs.Untried.{map-set}
 use Rattle.rectangle.specs.Store.{stride}
 use Rattle.groups.specs.Lent.{Inside, faultyAmong, numberOf, Within, membersOf, Picked}
 use Rattle.groups.specs.declared.tracked.Which.{Which}
 use Rattle.groups.specs.declared.tracked.Which.the-variants.{Row, Column}
 use Rattle.groups.proofs.Numbers.{members-inside}
-use Rattle.groups.proofs.Settled.{not-one, only-faulty-line, only-member, settled}
+use Rattle.scheme.proofs.Steps.{not-one}
+use Rattle.groups.proofs.Settled.{only-faulty-line, only-member, settled}
 use Rattle.peeling.specs.Lent.{markedFaulty, Counted, Visits}
 use Rattle.peeling.proofs.Touching.{some-columns}
 

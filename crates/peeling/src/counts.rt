@@ -29,7 +29,7 @@ fn count_row(marks: &[u8], faulty: &mut [u16], rows: usize, columns: usize, row:
     while c < columns {
         let more = one_if_faulty(marks[first + c]);
         found += more;
-        tracked::add_to_column(faulty, rows, ColumnIndex(c), more);
+        tracked::more_in_column(faulty, rows, ColumnIndex(c), more);
         c += 1;
     }
     tracked::put_row_count(faulty, row, found);

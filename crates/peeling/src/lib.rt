@@ -16,13 +16,13 @@ pub struct Foreseen {
 }
 
 // The first refusal that fits, or 0.
-fn refusal(rows: usize, columns: usize, faulty: &[u8], marks: &[u8]) -> u32
-    ensures { λ r. ⌜ r ≡ forecastRefusal rows columns (now (faulty .entry)) (now (marks .entry)) ⌝ }
+fn refusal(rows: usize, columns: usize, pattern: &[u8], marks: &[u8]) -> u32
+    ensures { λ r. ⌜ r ≡ forecastRefusal rows columns (now (pattern .entry)) (now (marks .entry)) ⌝ }
 {
     if !sizes::sides_fit(rows, columns) {
         return 2;
     }
-    if faulty.len() != rows * columns {
+    if pattern.len() != rows * columns {
         return 7;
     }
     if marks.len() != rows * columns {
@@ -32,18 +32,18 @@ fn refusal(rows: usize, columns: usize, faulty: &[u8], marks: &[u8]) -> u32
 }
 
 // From one byte for each line, 0 whole and anything else faulty: the marks, 0 whole, 3 rebuilt and 4 faulty, and the passes.
-pub fn forecast(rows: usize, columns: usize, faulty: &[u8], marks: &mut [u8]) -> Foreseen
+pub fn forecast(rows: usize, columns: usize, pattern: &[u8], marks: &mut [u8]) -> Foreseen
     ensures { λ r. ⌜ _≡_ {A = Forecast}
         (record { answer = r .answer; passes = r .passes; marks = now (marks .exit) })
-        (forecast· rows columns (now (faulty .entry)) (now (marks .entry))) ⌝ }
+        (forecast· rows columns (now (pattern .entry)) (now (marks .entry))) ⌝ }
 {
-    let answer = refusal(rows, columns, faulty, marks);
+    let answer = refusal(rows, columns, pattern, marks);
     if answer != 0 {
         return Foreseen { answer, passes: 0 };
     }
-    pattern::mark_lines(faulty, marks);
-    let mut numbers = [0u16; 1024];
-    counts::count_all(marks, &mut numbers, rows, columns);
-    let passes = passes::run_passes(marks, &mut numbers, rows, columns);
+    pattern::mark_lines(pattern, marks);
+    let mut faulty = [0u16; 1024];
+    counts::count_all(marks, &mut faulty, rows, columns);
+    let passes = passes::run_passes(marks, &mut faulty, rows, columns);
     Foreseen { answer, passes }
 }

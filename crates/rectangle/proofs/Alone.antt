@@ -2,7 +2,7 @@
 use mathlib.Core.Path.{_≡_, refl, sym, ap, _∙_}
 use mathlib.Core.Bool.{true, false, not}
 use mathlib.Core.List.{List, _∷_, map}
-use Prim.Native.Nat.{ℕ, zero, suc, _*_, _≤_}
+use Prim.Native.Nat.{ℕ, zero, suc, _*_, _≤_, _<_}
 use native.Mathlib.Nat.{suc-mul}
 use native.Mathlib.Omega.{arith}
 use borrow.Author.Tests.{eq-eqb, ne-eqb}
@@ -12,11 +12,13 @@ use Rattle.linecode.specs.Places.{linePlaces, lineBytes, places}
 use Rattle.linecode.specs.Code.{upFrom}
 use Rattle.linecode.specs.declared.alone.Reading.{Reading}
 use Rattle.scheme.specs.Layer.{readLine}
-use Rattle.scheme.specs.Visit.{State}
+use Rattle.scheme.specs.Visit.{State, cellAt}
 use Rattle.scheme.specs.Repair.{readAll}
+use Rattle.scheme.proofs.Stays.{first-reading-at}
 use Rattle.scheme.proofs.Width.{read-width}
-use Rattle.rectangle.specs.Store.{lineLayer, bytesAt, placesAt, putBytes, putLine, aloneAt, inBytes}
+use Rattle.rectangle.specs.Store.{lineLayer, bytesAt, placesAt, linesIn, putBytes, putLine, aloneAt, inBytes}
 use Rattle.rectangle.specs.Refusals.{acceptedAt}
+use Rattle.rectangle.proofs.Buffer.{length-linesIn, linesIn-at}
 use Rattle.rectangle.proofs.Spare.{length-places}
 use Rattle.rectangle.proofs.LineLayer.{kept}
 
@@ -56,3 +58,10 @@ pub read-from : (lines : List ℕ) (i k : ℕ)
 unfolding aloneAt
 read-from lines i zero = refl
 read-from lines i (suc k) = ap (λ (s : State). readLine lineLayer i (placesAt lines i) ∷ s) (read-from lines (suc i) k)
+
+-- a line after the first reading is as it reads alone
+pub first-at : (k : ℕ) (lines : List ℕ) (n : ℕ) → n < k → cellAt (readAll (readLine lineLayer) 0 (linesIn k lines)) n ≡ aloneAt lines n
+unfolding aloneAt
+first-at k lines n h =
+    first-reading-at (readLine lineLayer) (linesIn k lines) n (omega (arith, length-linesIn k lines))
+    ∙ ap (readLine lineLayer n) (linesIn-at k lines n h)

@@ -5,9 +5,9 @@ use Prim.Native.Nat.{ℕ, _+_, _*_, _≤_, _<_}
 use native.Mathlib.Omega.{arith}
 use Rattle.gf2.specs.Word.{Word}
 use Rattle.scheme.specs.Layer.{readLine}
-use Rattle.scheme.specs.Visit.{State}
+use Rattle.scheme.specs.Visit.{State, isFaulty}
 use Rattle.scheme.specs.Repair.{faultyCount, pass}
-use Rattle.scheme.proofs.Grows.{faulty-few}
+use Rattle.scheme.proofs.Lists.{select-few}
 use Rattle.scheme.proofs.Running.{Reached, reached-start, reached-end, reached-idle, reached-less, reached-next}
 use Rattle.rectangle.specs.Store.{lineLayer}
 use Rattle.groups.specs.Lent.{Room, Carried, Some, Makes, countTo}
@@ -40,7 +40,7 @@ running-start rows columns pm out marks lacks faulty f held room q =
             counted rows columns (held .0) out marks lacks faulty (held .1) room (held .2),
             held-count out marks (held .1) (held .2 .held),
             room .rect .markBytes,
-            faulty-few (held .1),
+            select-few isFaulty (held .1),
           );
       store = λ parity s h. (s, h, reached-start _ _ s f (q ∙ counted rows columns parity out marks lacks faulty s room h));
     }

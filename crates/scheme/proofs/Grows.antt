@@ -59,15 +59,6 @@ grows-count (cons {c} {d} {s} {t} (same p) g) = go (isFaulty c) refl (grows-coun
 grows-count (cons {c} {d} {s} {t} (mended p q h) g) =
     rw (p, q) (le-step (grows-count g .0), λ e. let z : ⊥ = omega (arith, grows-count g .0) in absurd z)
 
--- no more lines are faulty than there are
-pub faulty-few : (s : State) → faultyCount s ≤ length s
-faulty-few [] = omega arith
-faulty-few (c ∷ s) = go (isFaulty c) (faulty-few s)
-  where
-    go : (b : Bool) → faultyCount s ≤ length s → length (cond b (c ∷ select isFaulty s) (select isFaulty s)) ≤ suc (length s)
-    go true h = omega arith
-    go false h = omega arith
-
 -- counting no faulty line is finding none
 pub none-counted : (s : State) → faultyCount s ≡ 0 → (n : ℕ) → isFaulty (cellAt s n) ≡ false
 none-counted [] e n = refl

@@ -1,11 +1,11 @@
--- Membership in what a test selects and in an image, and rising lists.
+-- What a test selects, images of lists, and rising lists.
 use mathlib.Core.Path.{_≡_, refl, sym, ap, _∙_}
 use mathlib.Core.Logic.{inl, inr}
 use mathlib.Core.Bool.{Bool, true, false, cond}
 use mathlib.Core.List.{List, [], _∷_, map}
-use Prim.Native.Nat.{ℕ, _≤_}
+use Prim.Native.Nat.{ℕ, zero, suc, _≤_}
 use native.Mathlib.Omega.{arith}
-use lib.ListN.{length}
+use lib.ListN.{length, set}
 use Rattle.scheme.specs.Visit.{select}
 use Rattle.scheme.specs.Demand3.{_∈_, Rising}
 
@@ -35,6 +35,33 @@ module _ {A : Type 0} (test : A → Bool) where
 pub select-ext : (f g : ℕ → Bool) (ns : List ℕ) → ((n : ℕ) → n ∈ ns → f n ≡ g n) → select f ns ≡ select g ns
 select-ext f g [] h = refl
 select-ext f g (n ∷ ns) h = rw (h n (inl refl), select-ext f g ns (λ m i. h m (inr i)))
+
+-- no more are selected than there are
+pub select-few : {A : Type 0} (test : A → Bool) (l : List A) → length (select test l) ≤ length l
+select-few test [] = omega arith
+select-few test (a ∷ l) = go (test a) (select-few test l)
+  where
+    go : (b : Bool) → length (select test l) ≤ length l → length (cond b (a ∷ select test l) (select test l)) ≤ suc (length l)
+    go true h = omega arith
+    go false h = omega arith
+
+-- counting those of an image that pass a test
+pub count-map : {A B : Type 0} (f : A → B) (test : B → Bool) (l : List A)
+    → length (select test (map f l)) ≡ length (select (λ a. test (f a)) l)
+count-map f test [] = refl
+count-map {A} {B} f test (a ∷ l) = go (test (f a)) (count-map f test l)
+  where
+    go : (b : Bool) → length (select test (map f l)) ≡ length (select (λ a. test (f a)) l)
+        → length (cond b (f a ∷ select test (map f l)) (select test (map f l)))
+        ≡ length (cond b (a ∷ select (λ a. test (f a)) l) (select (λ a. test (f a)) l))
+    go true e = ap suc e
+    go false e = e
+
+-- the image of a list with one entry put in another's place
+pub map-set : {A B : Type 0} (f : A → B) (l : List A) (n : ℕ) (a : A) → map f (set l n a) ≡ set (map f l) n (f a)
+map-set f [] n a = refl
+map-set f (b ∷ l) zero a = refl
+map-set {A} {B} f (b ∷ l) (suc n) a = ap (λ (k : List B). f b ∷ k) (map-set f l n a)
 
 module _ {A B : Type 0} (f : A → B) where
   pub in-map : (l : List A) (a : A) → a ∈ l → f a ∈ map f l

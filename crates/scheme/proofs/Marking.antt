@@ -32,8 +32,12 @@ module _ (read : Reading) (gives : (n : ℕ) (found : Word) → read n found .ma
       every-passes (λ n c. c .mark ≤ 4) read (λ n p c e h i. omega arith) gs (λ g i s f n h e o. omega arith) (readAll read 0 found)
       (marked-reading 0 found)
 
+-- mark n of a store is that of its line n
+pub mark-at : (s : State) (n : ℕ) → getD (marksOf s) n 0 ≡ cellAt s n .mark
+mark-at s n = List·getD-map (λ (c : Cell). c .mark) s n (record { line = []; mark = 0 })
+
 marks-high : (s : State) → Marked s → (n : ℕ) → getD (marksOf s) n 0 ≤ 4
-marks-high s h n = rw (List·getD-map (λ (c : Cell). c .mark) s n (record { line = []; mark = 0 })) (h n)
+marks-high s h n = rw (mark-at s n) (h n)
 
 -- ---- any layer that keeps the promises
 pub repair-marks : (layer : Layer) → Promises layer → RepairMarks layer

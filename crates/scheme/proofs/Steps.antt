@@ -5,6 +5,7 @@ use mathlib.Core.Bool.{Bool, true, false, cond}
 use mathlib.Core.List.{List, [], _∷_}
 use Prim.Native.Nat.{ℕ}
 use native.Mathlib.Omega.{arith}
+use lib.ListN.{length}
 use Rattle.gf2.specs.Word.{flip}
 use Rattle.scheme.specs.Layer.{Cell, Reading}
 use Rattle.scheme.specs.Visit.{Group, State, cellAt, isFaulty, faultyOf, rebuild, rebuildOnly, settle, mismatch, tryPlaces, tryLines, triable, trial, visit}
@@ -26,6 +27,16 @@ settle-grows g s = go (faultyOf s (g .members)) (selected (λ n. isFaulty (cellA
     go [] h = grows-refl s
     go (n ∷ []) h = rebuild-grows g s n (h n (inl refl) .1)
     go (n ∷ m ∷ ns) h = grows-refl s
+
+-- none or several are left as they are
+pub not-one : (g : Group) (s : State) → (length (faultyOf s (g .members)) ≡ 1 → ⊥) → settle g s ≡ s
+unfolding settle
+not-one g s h = go (faultyOf s (g .members)) h
+  where
+    go : (l : List ℕ) → (length l ≡ 1 → ⊥) → rebuildOnly g s l ≡ s
+    go [] k = refl
+    go (n ∷ []) k = absurd (k refl)
+    go (n ∷ m ∷ l) k = refl
 
 module _ (read : Reading) where
   tryPlaces-kept : (n : ℕ) (c : Cell) (ps : List ℕ) → isFaulty c ≡ true → Kept c (tryPlaces read n c ps)

@@ -1,7 +1,7 @@
 -- Where no trial took, repair's marks (1 read as 0) and passes are the forecast's.
 use mathlib.Core.Path.{_≡_, refl, sym, ap, ap₂, _∙_, subst}
 use mathlib.Core.Logic.{_⊎_, inl, inr}
-use mathlib.Core.Bool.{Bool, true, false, cond}
+use mathlib.Core.Bool.{Bool, true, false, cond, true≢false}
 use mathlib.Core.List.{List, [], _∷_, map}
 use Prim.Native.Nat.{ℕ, zero, suc, _<_}
 use native.Mathlib.Decide.{ℕ-discrete}
@@ -15,10 +15,11 @@ use Rattle.scheme.specs.Layer.{Cell, Reading}
 use Rattle.scheme.specs.Visit.{Group, State, cellAt, isFaulty, select, faultyOf, rebuild, rebuildOnly, settle, mismatch, tryPlaces, tryLines, triable, trial, visit}
 use Rattle.scheme.specs.Repair.{Repaired, pass, faultyCount, passesFrom, marksOf}
 use Rattle.scheme.specs.Forecast.{never, SameLines, NoneByTrial, asForecast, SameMarks, Exact, ForecastExact}
-use Rattle.scheme.proofs.Lists.{select-ext}
+use Rattle.scheme.proofs.Lists.{select-ext, map-set}
 use Rattle.scheme.proofs.Grows.{Grows, grows-at, grows-refl, grows-trans, grows-length, kept-accepted}
 use Rattle.scheme.proofs.Steps.{settle-grows, trial-grows, visit-grows, pass-grows}
 use Rattle.scheme.proofs.Passes.{by-rounds, no-pass, last-pass, one-more-pass}
+use Rattle.scheme.proofs.Every.{every-passes}
 use Rattle.scheme.proofs.Within.{only-settles}
 
 -- ---- a trial that took is seen by its mark
@@ -78,18 +79,27 @@ module _ (read : Reading) where
 none-before : {s t : State} → Grows s t → NoneByTrial t → NoneByTrial s
 none-before g none n e = none n (ap (λ c. c .mark) (kept-accepted (grows-at g n) (λ (f : _ ≡ 4). omega arith)) ∙ e)
 
-untried : (read : Reading) (g : Group) (s : State) → NoneByTrial (visit read g s) → trial read g s ≡ s
+-- a visit that mends no line by trial: a line with mark 2 had it before
+abbrev NoNewTrial : State → State → Type 0
+NoNewTrial before after = (n : ℕ) → cellAt after n .mark ≡ 2 → cellAt before n .mark ≡ 2
+
+no-trial : (read : Reading) (g : Group) (s : State) → NoNewTrial s (visit read g s) → trial read g s ≡ s
 unfolding visit
-untried read g s none =
+no-trial read g s none =
     ext-getD _ (trial read g s) s (grows-length (trial-grows read g s)) (λ m h. go m (tried-trial read g s m))
   where
+    -- an accepted line stays
+    stays : {t u : State} → Grows t u → (m : ℕ) → cellAt t m .mark ≡ 2 → cellAt u m ≡ cellAt t m
+    stays g m e = kept-accepted (grows-at g m) (λ (f : _ ≡ 4). omega arith)
+
     go : (m : ℕ) → Tried (cellAt s m) (cellAt (trial read g s) m) → cellAt (trial read g s) m ≡ cellAt s m
     go m (inl e) = e
-    go m (inr e) = absurd (none-before (settle-grows g (trial read g s)) none m e)
+    go m (inr e) =
+        stays (trial-grows read g s) m (none m (ap (λ c. c .mark) (stays (settle-grows g (trial read g s)) m e) ∙ e))
 
-untried-visit : (read : Reading) (g : Group) (s : State) → NoneByTrial (visit read g s) → visit read g s ≡ settle g s
+no-trial-visit : (read : Reading) (g : Group) (s : State) → NoNewTrial s (visit read g s) → visit read g s ≡ settle g s
 unfolding visit
-untried-visit read g s none = ap (settle g) (untried read g s none)
+no-trial-visit read g s none = ap (settle g) (no-trial read g s none)
 
 -- ---- the same marks, 1 read as 0: a visit keeps them, and a pass
 faulty-as : (m : ℕ) → eqb (asForecast m) 4 ≡ eqb m 4
@@ -98,11 +108,6 @@ faulty-as m = go (eqb m 1) refl
     go : (b : Bool) → eqb m 1 ≡ b → eqb (cond b 0 m) 4 ≡ eqb m 4
     go true e = rw (eqb-true m 1 e)
     go false e = refl
-
-pub map-set : {A B : Type 0} (f : A → B) (l : List A) (n : ℕ) (a : A) → map f (set l n a) ≡ set (map f l) n (f a)
-map-set f [] n a = refl
-map-set f (b ∷ l) zero a = refl
-map-set {A} {B} f (b ∷ l) (suc n) a = ap (λ (k : List B). f b ∷ k) (map-set f l n a)
 
 module _ (s t : State) (same : SameMarks s t) where
   same-faulty : (n : ℕ) → isFaulty (cellAt s n) ≡ isFaulty (cellAt t n)
@@ -146,7 +151,7 @@ same-count (c ∷ s) (d ∷ t) same =
 
 same-visit : (read : Reading) (g h : Group) → g .members ≡ h .members → (s t : State) → SameMarks s t
     → NoneByTrial (visit read g s) → SameMarks (visit read g s) (visit never h t)
-same-visit read g h e s t same none = rw (untried-visit read g s none, only-settles h t) (same-settle s t same g h e)
+same-visit read g h e s t same none = rw (no-trial-visit read g s (λ n e. absurd (none n e)), only-settles h t) (same-settle s t same g h e)
 
 same-pass : (read : Reading) (gs hs : List Group) → SameLines gs hs → (s t : State) → SameMarks s t
     → NoneByTrial (pass read gs s) → SameMarks (pass read gs s) (pass never hs t)
@@ -199,9 +204,16 @@ module _ (read : Reading) (gs hs : List Group) (lines : SameLines gs hs) where
             (record { marks = exact .marks; passes = ap suc (exact .passes) }),
       )
 
+-- a reading that accepts nothing gives no line mark 2
+never-tried : (gs : List Group) (s : State) → NoneByTrial s → NoneByTrial (passesFrom never gs s .cells)
+never-tried gs s none =
+    every-passes (λ n c. c .mark ≡ 2 → ⊥) never (λ n p c faulty h accepted. absurd (true≢false accepted)) gs
+    (λ g i t every n listed faulty rest e. omega arith) s none
+
 pub forecast-exact : ForecastExact
 forecast-exact =
     record {
-      byVisit = λ read g s none. untried-visit read g s none ∙ sym (only-settles g s);
+      byVisit = λ read g s none. no-trial-visit read g s none ∙ sym (only-settles g s);
       byPasses = λ read gs hs lines s t same none. same-passes read gs hs lines s .1 none t same;
+      untried = λ gs hs lines s t same none. same-passes never gs hs lines s .1 (never-tried gs s none) t same;
     }

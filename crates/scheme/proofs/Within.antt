@@ -13,10 +13,10 @@ use Rattle.scheme.specs.Layer.{Cell, Reading}
 use Rattle.scheme.specs.Visit.{Group, State, cellAt, isFaulty, select, faultyOf, rebuild, rebuildOnly, settle, mismatch, tryPlaces, tryLines, triable, trial, visit}
 use Rattle.scheme.specs.Repair.{pass, faultyCount, passesFrom}
 use Rattle.scheme.specs.Demand3.{_∈_}
-use Rattle.scheme.specs.Forecast.{never, SameLines, FaultyWithin, Bounds, ForecastBounds, ForecastEnds, ForecastsEnd}
+use Rattle.scheme.specs.Forecast.{never, SameLines, FaultyWithin, Bounds, ForecastBounds, StoppingSet, ForecastEnds}
 use Rattle.scheme.proofs.Lists.{selected}
 use Rattle.scheme.proofs.Grows.{grows-count, none-counted, none-found}
-use Rattle.scheme.proofs.Steps.{pass-grows}
+use Rattle.scheme.proofs.Steps.{not-one, pass-grows}
 use Rattle.scheme.proofs.Passes.{by-rounds, passes-end, idle-visits}
 use Rattle.scheme.proofs.Stays.{neverAltered}
 use Rattle.scheme.proofs.Mends.{only-mended}
@@ -148,9 +148,20 @@ forecast-bounds read gs hs same s t within = record { only = only; noMore = with
         within-end read gs hs same (passesFrom read gs s .cells) (passes-end read gs s) t
         (λ n e. within n (sym (ap (λ c. c .mark) (neverAltered .byPasses read gs s .faulty n e)) ∙ e))
 
--- ---- the end: a pass rebuilds nothing, and so no group holds exactly one faulty line
-pub forecasts-end : ForecastsEnd
-forecasts-end gs s = record { idle = idle; noneAlone = λ g i one. alone g i (faultyOf left (g .members)) refl one }
+-- ---- the end: a pass rebuilds nothing, and what is left is the largest stopping set
+stopping-idle : (gs : List Group) (left : State) → StoppingSet gs left → pass never gs left ≡ left
+stopping-idle [] left stopping = refl
+stopping-idle (g ∷ gs) left stopping =
+    ap (pass never gs) (only-settles g left ∙ not-one g left (stopping g (inl refl)))
+    ∙ stopping-idle gs left (λ h i. stopping h (inr i))
+
+pub forecast-ends : ForecastEnds
+forecast-ends gs s =
+    record {
+      idle = idle;
+      stopping = λ g i one. alone g i (faultyOf left (g .members)) refl one;
+      largest = λ part stopping within. within-idle never gs gs refl part (stopping-idle gs part stopping) s within;
+    }
   where
     left : State
     left = passesFrom never gs s .cells
@@ -168,4 +179,5 @@ forecasts-end gs s = record { idle = idle; noneAlone = λ g i one. alone g i (fa
     alone g i (n ∷ []) e one =
         true≢false
         (sym (selected (λ m. isFaulty (cellAt left m)) (g .members) n (rw e (inl refl)) .1)
-        ∙ ap (λ u. isFaulty (cellAt u n)) (sym (idle-visits never gs left idle g i)) ∙ only-mended never g left n e)
+        ∙ ap (λ u. isFaulty (cellAt u n)) (sym (idle-visits never gs left idle g i))
+        ∙ only-mended never g left n e)

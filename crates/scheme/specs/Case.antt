@@ -43,13 +43,15 @@ hurtLines =
 abbrev pub MismatchWorkedOutOnce : Type 0
 MismatchWorkedOutOnce = marksOf (repair (readZero 5) twoByThree hurtLines .cells) ≡ 2 ∷ 3 ∷ 3 ∷ 0 ∷ 0 ∷ 0 ∷ []
 
--- all four lines of a 2 by 2 store are hurt, two and two alike: each takes a trial in its row, where rebuilding alone saves none
+-- the rows and columns of a 2 by 2 store
 abbrev pub twoByTwo : List Group
 twoByTwo = zeroGroup (0 ∷ 1 ∷ []) ∷ zeroGroup (2 ∷ 3 ∷ []) ∷ zeroGroup (0 ∷ 2 ∷ []) ∷ zeroGroup (1 ∷ 3 ∷ []) ∷ []
 
+-- all its lines are hurt, two and two alike
 abbrev pub hurtFour : List Word
 hurtFour = hurtAt (0 ∷ 1 ∷ []) ∷ hurtAt (2 ∷ 3 ∷ []) ∷ hurtAt (0 ∷ 1 ∷ []) ∷ hurtAt (2 ∷ 3 ∷ []) ∷ []
 
+-- each takes a trial in its row, where rebuilding alone saves none
 pub record TrialsSaveMore : Type 0 where
   pub repaired : marksOf (repair (readZero 5) twoByTwo hurtFour .cells) ≡ 2 ∷ 2 ∷ 2 ∷ 2 ∷ []
   pub forecast : marksOf (foreseen twoByTwo (1 ∷ 2 ∷ 4 ∷ 255 ∷ []) .cells) ≡ 4 ∷ 4 ∷ 4 ∷ 4 ∷ []

@@ -31,12 +31,13 @@ SameLines gs hs = map (λ g. g .members) gs ≡ map (λ g. g .members) hs
 abbrev pub FaultyWithin : State → State → Type 0
 FaultyWithin s t = (n : ℕ) → cellAt s n .mark ≡ 4 → cellAt t n .mark ≡ 4
 
--- "repair must leave no more lines faulty than this forecast does, and only lines that it names": of a store with these faulty lines, or
--- with fewer of them. With a reading that accepts nothing on both sides: the forecast of more faults leaves more faulty
+-- "repair must leave no more lines faulty than this forecast does, and only lines that it names"
 pub record Bounds (left forecast : State) : Type 0 where
   pub only : FaultyWithin left forecast
   pub noMore : faultyCount left ≤ faultyCount forecast
 
+-- so of every store with those faulty lines or with fewer; with a reading that accepts nothing on both sides, the forecast of more faults
+-- leaves those faulty that the other leaves
 abbrev pub ForecastBounds : Type 0
 ForecastBounds =
     (read : Reading) (gs hs : List Group) → SameLines gs hs → (s t : State) → FaultyWithin s t
@@ -46,29 +47,39 @@ ForecastBounds =
 abbrev pub NoneByTrial : State → Type 0
 NoneByTrial s = (n : ℕ) → cellAt s n .mark ≡ 2 → ⊥
 
--- "the marks .. that repair would give": 1 read as 0
+-- a mark as the forecast gives it: 1 read as 0
 abbrev pub asForecast : ℕ → ℕ
 asForecast mark = cond (eqb mark 1) 0 mark
 
--- two stores whose marks are the same, 1 read as 0
+-- the marks of t are those of s, so read
 abbrev pub SameMarks : State → State → Type 0
 SameMarks s t = map asForecast (marksOf s) ≡ marksOf t
 
--- where no trial took, the marks and passes are those "that repair would give"
+-- "the marks (0 for whole) and passes that repair would give"
 pub record Exact (repaired forecast : Repaired) : Type 0 where
   pub marks : SameMarks (repaired .cells) (forecast .cells)
   pub passes : repaired .passes ≡ forecast .passes
 
 pub record ForecastExact : Type 0 where
-  -- a visit in which no trial took is one with a reading that accepts nothing
-  pub byVisit : (read : Reading) (g : Group) (s : State) → NoneByTrial (visit read g s) → visit read g s ≡ visit never g s
+  -- a visit that mends no line by trial is one with a reading that accepts nothing
+  pub byVisit : (read : Reading) (g : Group) (s : State) → ((n : ℕ) → cellAt (visit read g s) n .mark ≡ 2 → cellAt s n .mark ≡ 2)
+      → visit read g s ≡ visit never g s
+  -- where no trial took, repair's marks and passes are the forecast's
   pub byPasses : (read : Reading) (gs hs : List Group) → SameLines gs hs → (s t : State) → SameMarks s t
       → NoneByTrial (passesFrom read gs s .cells) → Exact (passesFrom read gs s) (passesFrom never hs t)
+  -- and where one would take, those of repair's passes without trials are: lines and parity lines do not matter
+  pub untried : (gs hs : List Group) → SameLines gs hs → (s t : State) → SameMarks s t → NoneByTrial s
+      → Exact (passesFrom never gs s) (passesFrom never hs t)
 
--- it ends only when a pass rebuilds nothing: then no group holds exactly one faulty line
-pub record ForecastEnds (gs : List Group) (left : State) : Type 0 where
+-- no group holds exactly one faulty line: a stopping set, as the field calls it
+abbrev pub StoppingSet : List Group → State → Type 0
+StoppingSet gs left = (g : Group) → g ∈ gs → length (faultyOf left (g .members)) ≡ 1 → ⊥
+
+-- it ends only when a pass rebuilds nothing, and what is left faulty is the largest stopping set among the faulty lines
+pub record Ends (gs : List Group) (first left : State) : Type 0 where
   pub idle : pass never gs left ≡ left
-  pub noneAlone : (g : Group) → g ∈ gs → length (faultyOf left (g .members)) ≡ 1 → ⊥
+  pub stopping : StoppingSet gs left
+  pub largest : (part : State) → StoppingSet gs part → FaultyWithin part first → FaultyWithin part left
 
-abbrev pub ForecastsEnd : Type 0
-ForecastsEnd = (gs : List Group) (s : State) → ForecastEnds gs (passesFrom never gs s .cells)
+abbrev pub ForecastEnds : Type 0
+ForecastEnds = (gs : List Group) (s : State) → Ends gs s (passesFrom never gs s .cells)

@@ -1,5 +1,5 @@
 -- The SuDoku steps as document 01 makes them exact: read Layer, then Visit, Repair, Parity, Sound, Marks, Stays, Readings, OneLine,
--- Demand3, and last Forecast. Case is a worked case.
+-- Demand3, and last Forecast. Case has worked cases.
 pub mod Layer
 pub mod Visit
 pub mod Repair

@@ -14,7 +14,8 @@ use Rattle.rectangle.proofs.Spare.{length-places}
 use Rattle.rectangle.proofs.Stride.{stride-index, rising-stride}
 use Rattle.groups.specs.Lent.{Inside, Listed, faultyAmong}
 use Rattle.groups.proofs.Trials as trials
-use Rattle.groups.proofs.Settled.{not-one, only-faulty-line, only-member, rebuilt-word, settled, rebuilt-is, rebuilt-long}
+use Rattle.scheme.proofs.Steps.{not-one}
+use Rattle.groups.proofs.Settled.{only-faulty-line, only-member, rebuilt-word, settled, rebuilt-is, rebuilt-long}
 use Rattle.visiting.specs.Lent.{storeIn, Lent, groupAt, Becomes}
 use Rattle.visiting.proofs.Stores.{store-at, store-faulty, store-sum, store-long}
 use Rattle.visiting.proofs.Becoming.{nothing-becomes, line-mended, store-mended}

@@ -27,6 +27,7 @@ mod table;
 mod timing;
 mod wear;
 
+use std::array;
 use std::env;
 use std::hint::black_box;
 use std::process::ExitCode;
@@ -101,10 +102,11 @@ fn whole(work: impl FnMut(Doer)) -> Vec<Figures> {
 
 /// Repair of clean stores of several sides: nanoseconds for a line of each, and
 /// their growth in each round.
-fn growth(stores: &[Store; SIDES.len()]) -> [Vec<Figures>; SIDES.len() + 1] {
+fn growth(stores: &[Store; SIDES.len()]) -> Vec<Vec<Figures>> {
+    const DOERS: usize = ALL.len();
     let mut buffers = SIDES.map(Buffers::new);
     // Every size in every round, and in each as many lines.
-    let things: [_; 3 * SIDES.len()] = std::array::from_fn(|i| (i / 3, ALL[i % 3]));
+    let things: [_; DOERS * SIDES.len()] = array::from_fn(|i| (i / DOERS, ALL[i % DOERS]));
     let times = rounds(things, |(i, doer)| {
         let turns = (SIDE / SIDES[i]).pow(2);
         for _ in 0..turns {
@@ -112,7 +114,10 @@ fn growth(stores: &[Store; SIDES.len()]) -> [Vec<Figures>; SIDES.len() + 1] {
             black_box(&buffers[i]);
         }
     });
-    let each = |round: [f64; 9]| round.map(|time| time / (SIDE * SIDE) as f64);
+    let each = |times: [f64; DOERS * SIDES.len()]| -> [[f64; DOERS]; SIDES.len()] {
+        let line = |size: usize, doer: usize| times[size * DOERS + doer] / (SIDE * SIDE) as f64;
+        array::from_fn(|size| array::from_fn(|doer| line(size, doer)))
+    };
     grown(times.into_iter().map(each))
 }
 

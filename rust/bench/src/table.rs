@@ -1,5 +1,6 @@
 //! The rows of the table, in Markdown.
 
+use std::array;
 use std::fmt;
 
 use crate::timing::{Range, Spread};
@@ -42,21 +43,22 @@ pub fn scaled<const N: usize>(times: Vec<[f64; N]>, by: f64) -> Vec<Figures> {
     times.into_iter().map(scaled).collect()
 }
 
-/// Of rounds with three times for each of three sizes: the figures of each size,
-/// and then those of the growth, the largest of the same three through the
+/// Of rounds with the same times for each of several sizes: the figures of each
+/// size, and then those of the growth, the largest of each time through the
 /// smallest.
-pub fn grown(rounds: impl Iterator<Item = [f64; 9]>) -> [Vec<Figures>; 4] {
-    let mut rows = [const { vec![] }; 4];
-    for round in rounds {
-        let (sizes, _) = round.as_chunks::<3>();
-        for (row, times) in rows.iter_mut().zip(sizes) {
+pub fn grown<const TIMES: usize, const SIZES: usize>(
+    rounds: impl Iterator<Item = [[f64; TIMES]; SIZES]>,
+) -> Vec<Vec<Figures>> {
+    let mut rows = vec![vec![]; SIZES + 1];
+    for sizes in rounds {
+        for (row, times) in rows.iter_mut().zip(&sizes) {
             row.push(figures(times));
         }
-        let growth = [0, 1, 2].map(|of| {
+        let growth: [f64; TIMES] = array::from_fn(|of| {
             let times = sizes.iter().map(|size| size[of]);
             times.clone().fold(0.0, f64::max) / times.fold(f64::INFINITY, f64::min)
         });
-        rows[3].push(figures(&growth));
+        rows[SIZES].push(figures(&growth));
     }
     rows
 }
@@ -255,17 +257,19 @@ mod tests {
     #[test]
     fn growth_is_that_of_each_round() {
         let rounds = [
-            [1.0, 10.0, 2.0, 2.0, 10.0, 4.0, 4.0, 5.0, 1.0],
-            [3.0, 1.0, 1.0, 3.0, 1.0, 1.0, 3.0, 1.0, 1.0],
+            [[1.0, 10.0, 2.0], [2.0, 10.0, 4.0], [4.0, 5.0, 1.0]],
+            [[3.0, 1.0, 1.0]; 3],
         ];
-        let [first, second, third, growth] = grown(rounds.into_iter());
-        assert_eq!(
-            first,
-            [[1.0, 10.0, 2.0], [3.0, 1.0, 1.0]].map(|of| figures(&of))
-        );
-        assert_eq!(second[0], figures(&[2.0, 10.0, 4.0]));
-        assert_eq!(third[0], figures(&[4.0, 5.0, 1.0]));
-        assert_eq!(growth, [[4.0, 2.0, 4.0], [1.0; 3]].map(|of| figures(&of)));
+        let due = [
+            all([[1.0, 10.0, 2.0], [3.0, 1.0, 1.0]]),
+            all([[2.0, 10.0, 4.0], [3.0, 1.0, 1.0]]),
+            all([[4.0, 5.0, 1.0], [3.0, 1.0, 1.0]]),
+            all([[4.0, 2.0, 4.0], [1.0; 3]]),
+        ];
+        assert_eq!(grown(rounds.into_iter()), due);
+        // Two times for each of two sizes.
+        let due = [[[8.0, 3.0]], [[4.0, 6.0]], [[2.0, 2.0]]].map(all);
+        assert_eq!(grown([[[8.0, 3.0], [4.0, 6.0]]].into_iter()), due);
     }
 
     #[test]

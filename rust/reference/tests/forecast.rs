@@ -52,16 +52,13 @@ fn drawn_calls_answer_as_the_request_says() {
     seen.expect_passes(20);
 }
 
-/// All patterns of two small rectangles, and drawn ones of larger, on stores in
+/// All patterns of three small rectangles, and drawn ones of larger, on stores in
 /// which no trial takes: repair and forecast are equal.
 #[test]
 fn without_trials_it_is_repair() {
     let mut random = Random::new(61);
-    let every = |sides: (usize, usize)| {
-        let bits = 0..1 << (sides.0 * sides.1);
-        bits.map(move |bits| q6::pattern(sides, bits))
-    };
-    for call in every((2, 3)).chain(every((3, 2))).chain(every((3, 3))) {
+    let every = |sides| (0..q6::pattern_count(sides)).map(move |bits| q6::pattern(sides, bits));
+    for call in [(2, 3), (3, 2), (3, 3)].into_iter().flat_map(every) {
         for hurt in Hurt::ALL {
             equals_repair(&mut random, &call, hurt);
         }
@@ -118,14 +115,18 @@ fn beside_repair(random: &mut Random, beside: &mut Beside, store: &Store) {
 #[test]
 fn patterns_are_drawn_in_every_way() {
     let mut random = Random::new(64);
+    let (mut all_lines, mut all_faulty) = (0, [0; Way::ALL.len()]);
     for _ in 0..300 {
         let sides = stores::sides(&mut random, 20);
-        for way in Way::ALL {
-            let faulty = draw::pattern_by(&mut random, sides, way);
+        let lines = sides.0 * sides.1;
+        all_lines += lines;
+        for (way, of_way) in Way::ALL.iter().zip(&mut all_faulty) {
+            let faulty = draw::pattern_by(&mut random, sides, *way);
             let call = draw::call_on(&mut random, sides, faulty);
             let given = call.forecast();
             let marks = |mark: u8| given.marks.iter().filter(|&&of| of == mark).count();
-            let (rebuilt, left, lines) = (marks(3), marks(4), sides.0 * sides.1);
+            let (rebuilt, left) = (marks(3), marks(4));
+            *of_way += rebuilt + left;
             let fits = match way {
                 Way::Nothing => rebuilt + left == 0,
                 Way::Few => (1..=5).contains(&(rebuilt + left)),
@@ -137,9 +138,18 @@ fn patterns_are_drawn_in_every_way() {
                 Way::OpenChain => left == 0 && given.passes as usize >= rebuilt / 4,
                 Way::ChainToRing => left >= 4,
                 Way::Ring => rebuilt == 0 && left >= 4,
-                Way::Scattered | Way::Most | Way::Both => true,
+                // These may give any pattern; see below.
+                Way::Scattered | Way::Most | Way::Both => continue,
             };
             assert!(fits, "{way:?}, {rebuilt} rebuilt, {left} left of {lines}");
         }
     }
+    // What they are meant to give shows only in all of their patterns together.
+    // Two ways choose more lines than one, which is a tenth of what the ten do.
+    let [_, _, _, scattered, most, .., both] = all_faulty;
+    let others = all_faulty.iter().sum::<usize>() - both;
+    println!("of {all_lines} lines {all_faulty:?} are faulty");
+    assert!((all_lines / 8..=all_lines / 2).contains(&scattered));
+    assert!((all_lines / 2..=all_lines * 7 / 8).contains(&most));
+    assert!(both > others / 10);
 }

@@ -169,10 +169,11 @@ impl fmt::Display for Answer {
 
 impl Error for Answer {}
 
-/// What a reading or a repair says of a line.
+/// What a reading, a repair or a forecast says of a line.
 #[derive(Clone, Copy, Debug, PartialEq, Eq, Hash)]
 pub enum Mark {
-    /// 0: correct as found; its spare bits don't count.
+    /// 0: correct as found; its spare bits don't count. In a forecast: whole,
+    /// which a line that was rewritten is too.
     Clean,
     /// 1: accepted, and rewritten somewhere: a bit of data or check was
     /// flipped, or Hamming bits were changed.

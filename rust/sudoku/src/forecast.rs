@@ -3,14 +3,15 @@
 use crate::{Answer, Mark, c, count_of};
 
 /// What rebuilding alone would make of some faulty lines: which of them it saves,
-/// which captions are lost, and in how many passes.
+/// which are lost, and in how many passes.
 ///
-/// The lost lines are a bound. Of a store in which just these lines can't be read
-/// alone, and whose parity lines are all accepted, [`Store::repair`] leaves none
-/// faulty but lost ones, whatever the lines hold; it may save some of them by
-/// trial. Where no trial takes, it gives exactly these marks, but for
-/// [`Mark::Rewritten`] where a whole line was rewritten, and these passes. Where
-/// some parity line isn't accepted, repair may leave more.
+/// The lost lines are a bound. Of a store whose faulty lines are all named, perhaps
+/// others besides, and whose parity lines are all accepted, [`Store::repair`]
+/// leaves no line faulty but lost ones; it may save some of these by trial. If just
+/// the faulty lines are named and no trial takes (no line has [`Mark::Trial`]),
+/// repair gives exactly these marks, but for [`Mark::Rewritten`] where a whole line
+/// was rewritten, and these passes. Where some parity line isn't accepted, repair
+/// may leave more.
 ///
 /// [`Store::repair`]: crate::Store::repair
 #[derive(Clone, Debug, PartialEq, Eq)]
@@ -25,7 +26,8 @@ pub struct Forecast {
 }
 
 impl Forecast {
-    /// The numbers of the lines that stay faulty, rising.
+    /// The numbers of the lines that stay faulty, rising: the largest part of the
+    /// named lines of which no row and no column holds exactly one.
     pub fn lost(&self) -> Vec<usize> {
         let lines = self.marks.iter().enumerate();
         let lost = lines.filter(|&(_, &mark)| mark == Mark::Faulty);
@@ -51,8 +53,9 @@ impl Forecast {
 /// without any line's bytes: no trial takes, and all parity lines are usable.
 ///
 /// `faulty` has the numbers of the lines that can't be read alone, in any order;
-/// one that stands there twice counts once. A longer list loses all that a shorter
-/// one loses: where it names lines needlessly, it still gives a bound.
+/// one that stands there twice counts once. With further lines named besides, it
+/// loses at least the same lines: where some are named needlessly, it is still a
+/// bound.
 ///
 /// ```
 /// use sudoku::{Answer, Mark, forecast};
@@ -85,8 +88,10 @@ pub fn forecast(rows: usize, columns: usize, faulty: &[usize]) -> Result<Forecas
         *named.get_mut(n).ok_or(Answer::Number)? = 1;
     }
     let mut marks = vec![0; count];
-    // With these sides and lengths the answer is always 0.
-    let (_, passes) = c::forecast(rows, columns, &named, &mut marks);
+    let (answer, passes) = c::forecast(rows, columns, &named, &mut marks);
+    // With these sides and lengths it isn't refused; if it were, its marks would
+    // say that nothing is lost.
+    Answer::from_numbers(answer, 0).done()?;
     Ok(Forecast {
         marks: marks.into_iter().map(Mark::from_number).collect(),
         passes,

@@ -6,10 +6,10 @@
 //! and column, and [`Store::repair`] mends damaged lines from these, and the
 //! parity lines from the lines. [`Store::read_one`] gives one line as repair
 //! would, mostly without repairing the rest. [`forecast()`] tells from the numbers
-//! of the faulty lines alone which captions would be lost. A [`Wear`] report adds
-//! up what the repairs of many stores found. The work is done by the static
-//! library `libcapi.a`, whose functions are proved to follow the store's rules;
-//! this crate is a safe way to call it.
+//! of the faulty lines alone which captions at most would be lost. A [`Wear`]
+//! report adds up what the repairs of many stores found. The work is done by the
+//! static library `libcapi.a`, whose functions are proved to follow the store's
+//! rules; this crate is a safe way to call it.
 //!
 //! Nothing here panics on bad input: what is refused comes back as an
 //! [`Answer`]. Calls keep no state, so threads may call at once; repair and a
@@ -27,7 +27,8 @@
 //! store.lines_mut()[3 * sudoku::LINE_BYTES] ^= 3;
 //! assert!(store.read(3)?.is_faulty());
 //!
-//! // That line 3 is faulty is enough to know that no caption will be lost.
+//! // Only line 3 is faulty: where all parity lines can be read, no line will be
+//! // left faulty.
 //! assert!(forecast(2, 2, &[3])?.saves_all());
 //!
 //! // Repair rebuilds it from its row.
@@ -66,10 +67,11 @@
 //!   line stays faulty; or the table has to be loaded anew
 //!   ([`Store::row_table_mut`], [`Store::column_table_mut`]). After the first
 //!   the column's may be bad too, since the row is answered for first.
-//! - A [`Forecast`] is a bound: of a store with these faulty lines repair leaves
-//!   none faulty but those that the forecast leaves, and may mend some of them by
-//!   trial. That holds where all parity lines are accepted; where some aren't,
-//!   repair may leave more. The passes of a forecast are no bound.
+//! - A [`Forecast`] is a bound: of a store whose faulty lines it was told repair
+//!   leaves none faulty but those that the forecast leaves, and may mend some of
+//!   them by trial. That holds where all parity lines are accepted; where some
+//!   aren't, repair may leave more. The passes of a forecast are no bound, and that
+//!   lines and tables disagree ([`Answer::Differs`]) it can't tell.
 //! - A [`Wear`] report counts every result that it is handed, the same one again
 //!   too. Shares of rebuilt lines are compared exactly ([`Wear::rebuilt_share`]);
 //!   in percent, two that differ may look alike.

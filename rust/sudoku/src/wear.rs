@@ -101,7 +101,8 @@ impl Wear {
     /// [`c::repair`] hands them over.
     ///
     /// What [`c::read_one`] leaves is no result, but would be taken for one: the
-    /// marks among its work buffers are zeros. Add only what repair gave.
+    /// marks among its work buffers are zeros. So would the marks of a forecast.
+    /// Add only what repair gave.
     ///
     /// ```
     /// use sudoku::{Answer, Wear};

@@ -29,30 +29,12 @@ pub fn forecast(on: &dyn Interface, call: &Call, shift: usize) -> Given {
         marks: marks.content().to_vec(),
     };
     if answer == 0 {
-        expect_possible(name, &call.faulty, &given);
+        given.expect_words(call, name);
     } else {
         let untouched = given.marks == call.marks && passes == 0;
         assert!(untouched, "{name}: {answer} has written or has passes");
     }
     given
-}
-
-/// Whole lines have mark 0 and faulty ones 3 or 4; there are passes if a line is
-/// faulty, and no more than such lines.
-fn expect_possible(name: &str, faulty: &[u8], given: &Given) {
-    let fits = |(&byte, &mark): (&u8, &u8)| match byte {
-        0 => mark == 0,
-        _ => mark == 3 || mark == 4,
-    };
-    let wrong = faulty.iter().zip(&given.marks).position(|of| !fits(of));
-    assert_eq!(wrong, None, "{name}: a line with a mark that it can't have");
-    let count = faulty.iter().filter(|&&byte| byte != 0).count() as u64;
-    let passes = count.min(1)..=count;
-    assert!(
-        passes.contains(&given.passes),
-        "{name}: {} passes for {count} faulty lines",
-        given.passes
-    );
 }
 
 /// [`forecast`] on both implementations, which must agree.

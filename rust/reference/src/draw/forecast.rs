@@ -42,6 +42,34 @@ impl Call {
     }
 }
 
+impl Given {
+    /// Holds this against what the papers say in so many words of every call that
+    /// isn't refused: 0 for whole, 3 or 4 for faulty lines; passes are 0 when
+    /// nothing is faulty, and never more than the faulty lines.
+    ///
+    /// # Panics
+    ///
+    /// Panics where it can't be what such a call gives.
+    #[track_caller]
+    pub fn expect_words(&self, call: &Call, what: &str) {
+        assert_eq!(self.marks.len(), call.faulty.len(), "{what}: marks");
+        for (n, (byte, mark)) in call.faulty.iter().zip(&self.marks).enumerate() {
+            let fits = match byte {
+                0 => *mark == 0,
+                _ => [3, 4].contains(mark),
+            };
+            assert!(fits, "{what}: line {n} has byte {byte} and mark {mark}");
+        }
+        let faulty = call.faulty.iter().filter(|&&byte| byte != 0).count() as u64;
+        let possible = faulty.min(1)..=faulty;
+        let passes = self.passes;
+        assert!(
+            possible.contains(&passes),
+            "{what}: {passes} passes for {faulty} faulty lines"
+        );
+    }
+}
+
 /// A way of choosing the lines that are faulty.
 #[derive(Clone, Copy, Debug, PartialEq, Eq)]
 pub enum Way {

@@ -27,7 +27,7 @@ fn faulty_lines(faulty: &[u8]) -> Vec<usize> {
 /// The lines that are left faulty: all that remain if lines which are the only
 /// ones of their row or column are taken away, here all of them at once, until
 /// there are no such lines.
-pub fn left(columns: usize, faulty: &[u8]) -> Vec<usize> {
+fn left(columns: usize, faulty: &[u8]) -> Vec<usize> {
     let mut left = faulty_lines(faulty);
     loop {
         let before = left.clone();

@@ -76,6 +76,11 @@ pub fn small_sides() -> impl Iterator<Item = (usize, usize)> {
     sides.filter(|(rows, columns)| rows * columns <= 12)
 }
 
+/// How many patterns a rectangle of these sides has.
+pub fn pattern_count((rows, columns): (usize, usize)) -> usize {
+    1 << (rows * columns)
+}
+
 /// The pattern in which line n is faulty if bit n is set, with many different
 /// bytes.
 pub fn pattern((rows, columns): (usize, usize), bits: usize) -> Call {
@@ -101,7 +106,7 @@ pub fn expect_every_pattern(sides: (usize, usize), forecast: impl Fn(&Call) -> G
         let given = forecast(&call);
         let what = format!("sides {sides:?}, lines {bits:#b}");
         expect(&given, &law::due(&call), &what);
-        expect_words(&call, &given, &what);
+        given.expect_words(&call, &what);
         assert_eq!(bits_of(&given.marks, 4), largest[bits], "{what}: left");
         bits_of(&given.marks, 4)
     };
@@ -124,20 +129,6 @@ fn expect_more_of_more(left: &[usize]) {
 fn bits_of(marks: &[u8], mark: u8) -> usize {
     let with = (0..marks.len()).filter(|&n| marks[n] == mark);
     with.map(|n| 1 << n).sum()
-}
-
-/// What the papers say of every forecast in so many words: 0 for whole, 3 or 4
-/// for faulty lines; passes are 0 when nothing is faulty, and never more than the
-/// faulty lines.
-fn expect_words(call: &Call, given: &Given, what: &str) {
-    for (byte, mark) in call.faulty.iter().zip(&given.marks) {
-        let whole = *byte == 0;
-        assert_eq!(whole, *mark == 0, "{what}: byte {byte}");
-        assert!(whole || [3, 4].contains(mark), "{what}: mark {mark}");
-    }
-    let faulty = call.faulty.iter().filter(|&&byte| byte != 0).count() as u64;
-    assert_eq!(given.passes == 0, faulty == 0, "{what}: passes");
-    assert!(given.passes <= faulty, "{what}: passes");
 }
 
 /// What drawn forecasts came to.
@@ -169,7 +160,7 @@ impl Seen {
         } else {
             let what = format!("sides {:?}", (call.rows, call.columns));
             expect(given, &law::due(call), &what);
-            expect_words(call, given, &what);
+            given.expect_words(call, &what);
             self.count(given);
         }
     }

@@ -78,8 +78,9 @@ fn given_up(repaired: &Repaired) -> Vec<usize> {
     (0..repaired.marks.len()).filter(is_faulty).collect()
 }
 
-/// Stores with usable parity lines: of a list that names more lines than are
-/// faulty no fewer are lost, so that it foretells what is given up too.
+/// Stores with usable parity lines: of a list that names other lines besides the
+/// faulty ones at least the same are lost, so that it foretells what is given up
+/// too.
 #[test]
 fn no_caption_is_given_up_that_is_not_foretold() {
     let mut random = Random::new(seed());

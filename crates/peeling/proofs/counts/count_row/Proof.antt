@@ -37,8 +37,8 @@ add-found c =
     let at = c .before .before .before .before .before .before .before .args .row .0 * c .before .before .before .before .before .before .before .args .columns + c .before .before .before .loop .c in
     omega (arith, row-few _ _ _ _ (pre .2) _ _ _ (c .before .before .before .loop .inv), one-small (getD marks at 0) _ (c .one-if-faulty .ensures))
 
-add-to-column-requires : tie.Need-add-to-column-requires Inv-loop μ-loop
-add-to-column-requires c κs =
+more-in-column-requires : tie.Need-more-in-column-requires Inv-loop μ-loop
+more-in-column-requires c κs =
     let pre = c .before .before .before .before .before .before .before .before .pre .0 in
     let here = c .before .before .before .before .loop .inv in
     let marks = c .before .before .before .before .before .before .before .before .args .marks .now in
@@ -58,7 +58,7 @@ loop-less c = omega (arith, c .before .before .before .before .before .before .l
 loop-again : tie.Need-loop-again Inv-loop μ-loop
 loop-again c =
     let pre = c .before .before .before .before .before .before .before .before .before .before .before .pre .0 in
-    row-next _ _ _ _ (pre .2) _ _ _ (c .before .before .before .before .before .before .before .loop .inv) (c .before .before .before .before .before .before .loop-test .taken) _ _ (c .before .before .before .before .one-if-faulty .ensures) (c .before .before .add-to-column .ensures)
+    row-next _ _ _ _ (pre .2) _ _ _ (c .before .before .before .before .before .before .before .loop .inv) (c .before .before .before .before .before .before .loop-test .taken) _ _ (c .before .before .before .before .one-if-faulty .ensures) (c .before .before .more-in-column .ensures)
 
 put-row-count-requires : tie.Need-put-row-count-requires Inv-loop μ-loop
 put-row-count-requires c κs =
@@ -83,7 +83,7 @@ count-row-spec =
     shared-slice-read-one-if-faulty
     one-if-faulty-requires
     add-found
-    add-to-column-requires
+    more-in-column-requires
     add-c
     loop-less
     loop-again
