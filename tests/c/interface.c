@@ -723,14 +723,21 @@ static void forecast_refusals(void)
     CHECK(memcmp(faulty, all_faulty, COUNT) == 0 && INTACT(faulty));
 }
 
+/* The list in which those lines have this byte that have a mark other than 0. */
+static void list_marked(uint8_t *list, const uint8_t *expected, size_t count, uint8_t byte)
+{
+    for (size_t n = 0; n < count; n++)
+        list[n] = expected[n] == 0 ? 0 : byte;
+}
+
 /* Whether the forecast of lines with this byte is these marks, which are 0 for all others, and nothing else is written. */
 static int foretells(const uint8_t *expected, uint64_t passes, uint8_t byte)
 {
     uint8_t before[COUNT];
 
     FILL(faulty);
-    for (size_t n = 0; n < COUNT; n++)
-        before[n] = faulty[n] = expected[n] == 0 ? 0 : byte;
+    list_marked(faulty, expected, COUNT, byte);
+    list_marked(before, expected, COUNT, byte);
     return forecast_sized(ROWS, COLUMNS, COUNT, COUNT) == SUDOKU_DONE && numbered(passes) && memcmp(marks, expected, COUNT) == 0
         && INTACT(marks) && memcmp(faulty, before, COUNT) == 0 && INTACT(faulty);
 }
@@ -777,6 +784,52 @@ static void forecasting(void)
         CHECK(memcmp(marks, expected, COUNT) == 0);
         put_back(&written);
     }
+}
+
+/* Rectangles of two rows or two columns, as long as can be. */
+enum { LONG = SUDOKU_GREATEST_SIDE, BOTH = 2 * LONG };
+
+GUARDED(long_faulty, BOTH);
+GUARDED(long_marks, BOTH);
+static uint8_t long_expected[BOTH];
+
+/* Whether the forecast of the lines that have a mark in the marks expected is these, and nothing else is written. */
+static int foretells_long(size_t r, size_t c, uint64_t passes)
+{
+    static uint8_t before[BOTH];
+
+    FILL(long_faulty);
+    FILL(long_marks);
+    unset_number();
+    list_marked(long_faulty, long_expected, BOTH, FILLING);
+    list_marked(before, long_expected, BOTH, FILLING);
+    return sudoku_forecast(r, c, long_faulty, BOTH, long_marks, BOTH, number) == SUDOKU_DONE && numbered(passes)
+        && memcmp(long_marks, long_expected, BOTH) == 0 && INTACT(long_marks) && memcmp(long_faulty, before, BOTH) == 0
+        && INTACT(long_faulty);
+}
+
+/*
+ * One of two rows is rebuilt by the columns and one of two columns by the rows, in one pass; where every line is faulty, all are left.
+ * If only the last line is whole, the other of its column or its row, which has two, is rebuilt; a second pass finds nothing to do.
+ */
+static void forecasting_long(void)
+{
+    for (size_t k = 0; k < 2; k++) {
+        memset(long_expected, 0, BOTH);
+        memset(long_expected + k * LONG, SUDOKU_MARK_REBUILT, LONG);
+        CHECK(foretells_long(2, LONG, 1));
+        for (size_t n = 0; n < BOTH; n++)
+            long_expected[n] = n % 2 == k ? SUDOKU_MARK_REBUILT : 0;
+        CHECK(foretells_long(LONG, 2, 1));
+    }
+    memset(long_expected, SUDOKU_MARK_FAULTY, BOTH);
+    CHECK(foretells_long(2, LONG, 1) && foretells_long(LONG, 2, 1));
+    long_expected[BOTH - 1] = 0;
+    long_expected[LONG - 1] = SUDOKU_MARK_REBUILT;
+    CHECK(foretells_long(2, LONG, 2));
+    long_expected[LONG - 1] = SUDOKU_MARK_FAULTY;
+    long_expected[BOTH - 2] = SUDOKU_MARK_REBUILT;
+    CHECK(foretells_long(LONG, 2, 2));
 }
 
 /* Trials save what the forecast leaves; and a line is left that it saves, where its row and its column are unusable. */
@@ -1490,6 +1543,7 @@ int main(void)
     one_looks_at();
     forecast_refusals();
     forecasting();
+    forecasting_long();
     forecast_bounds();
     wear_adding();
     wear_refusals();

@@ -1,8 +1,8 @@
 -- Document 01, "Repair": what is handed over, line by line, and the passes, for every rectangle that repair does not turn back.
-use mathlib.Core.Path.{_≡_, refl, sym, ap, _∙_}
-use mathlib.Core.Bool.{Bool, true, false, cond}
-use mathlib.Core.List.{List, [], _∷_, map}
-use Prim.Native.Nat.{ℕ, suc, _*_, _<_}
+use mathlib.Core.Path.{_≡_, sym, ap, _∙_}
+use mathlib.Core.Bool.{true}
+use mathlib.Core.List.{List, []}
+use Prim.Native.Nat.{ℕ, _*_, _<_}
 use native.Mathlib.Omega.{arith}
 use borrow.Author.Tests.{eqb-false, not-true}
 use lib.ListN.{length, getD, length-map, List·getD-map}
@@ -10,7 +10,7 @@ use Rattle.gf2.specs.Word.{Word}
 use Rattle.linecode.specs.Places.{linePlaces, lineBytes, places, lineOf}
 use Rattle.linecode.specs.Code.{upFrom}
 use Rattle.scheme.specs.Layer.{Cell, readLine, Promises}
-use Rattle.scheme.specs.Visit.{Group, State, cellAt, lineAt, isFaulty, select}
+use Rattle.scheme.specs.Visit.{Group, State, cellAt, lineAt, isFaulty}
 use Rattle.scheme.specs.Repair.{readAll, faultyCount, linesOf, marksOf}
 use Rattle.scheme.specs.Sound.{AllPlaces}
 use Rattle.scheme.specs.Demand3.{_∈_}

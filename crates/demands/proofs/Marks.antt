@@ -5,7 +5,7 @@ use mathlib.Core.Bool.{true, not}
 use mathlib.Core.List.{List, [], _∷_, _++_}
 use Prim.Native.Nat.{ℕ, _<_}
 use borrow.Author.Tests.{ne-eqb, eqb-false, not-true}
-use lib.ListN.{length, getD, length-map, List·getD-map}
+use lib.ListN.{length, getD, length-map}
 use Rattle.gf2.specs.Word.{Word}
 use Rattle.linecode.specs.Places.{lineOf}
 use Rattle.scheme.specs.Layer.{Cell, readLine}

@@ -15,7 +15,7 @@ use Rattle.scheme.specs.Parity.{unusable, asRead}
 use Rattle.scheme.specs.Demand3.{_∈_}
 use Rattle.scheme.specs.OneLine.{AlikeIn, SharesNone}
 use Rattle.scheme.proofs.Lists.{map-from}
-use Rattle.scheme.proofs.Stays.{neverAltered, readAll-length, first-reading-at, repair-length}
+use Rattle.scheme.proofs.Stays.{neverAltered, readAll-length, repair-length}
 use Rattle.scheme.proofs.Parity.{without-lines, unusable-idle}
 use Rattle.scheme.proofs.Used.{usable}
 use Rattle.scheme.proofs.OneLine.{visit-local, stops-early}
@@ -23,7 +23,7 @@ use Rattle.rectangle.specs.Store.{lineLayer, bytesAt, linesIn, aloneAt, row, ro
 use Rattle.rectangle.specs.Refusals.{sidesFit, repairRefusal}
 use Rattle.rectangle.specs.Repair.{usedGroups, repairedBy, repaired, Buffers, handedOver}
 use Rattle.rectangle.proofs.Alone.{first-at}
-use Rattle.rectangle.proofs.Buffer.{length-linesIn, linesIn-at}
+use Rattle.rectangle.proofs.Buffer.{length-linesIn}
 use Rattle.rectangle.proofs.Groups.{sides, in-row, row-number, row-inside, row-below}
 use Rattle.rectangle.proofs.Members.{upFrom-bounds, upFrom-split}
 use Rattle.rectangle.proofs.Runs.{repair-runs}

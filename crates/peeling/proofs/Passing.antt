@@ -1,9 +1,8 @@
 -- A pass over all groups, one after the other, on marks and counts.
-use mathlib.Core.Path.{_≡_, sym, ap, subst, _∙_}
-use mathlib.Core.List.{List, [], map}
+use mathlib.Core.Path.{_≡_, sym, ap, _∙_}
+use mathlib.Core.List.{List, []}
 use Prim.Native.Nat.{ℕ, _+_, _≤_, _<_}
 use native.Mathlib.Omega.{arith}
-use Rattle.linecode.specs.Code.{upFrom}
 use Rattle.scheme.specs.Visit.{State, visit}
 use Rattle.scheme.specs.Repair.{pass, marksOf}
 use Rattle.scheme.specs.Forecast.{never}

@@ -1,9 +1,9 @@
 -- One line becomes faulty or is no longer: its row's number and its column's change with it, and no other.
 use mathlib.Core.Path.{_≡_, refl, sym, ap, subst, _∙_}
 use mathlib.Core.Logic.{_⊎_, inl, inr}
-use mathlib.Core.Bool.{Bool, true, false, cond}
+use mathlib.Core.Bool.{Bool, true, false}
 use mathlib.Core.List.{List, [], _∷_}
-use Prim.Native.Nat.{ℕ, suc, _+_, _-_, _*_, _/_, _%_, _≤_, _<_}
+use Prim.Native.Nat.{ℕ, _+_, _-_, _*_, _/_, _%_, _<_}
 use native.Mathlib.Decide.{ℕ-discrete}
 use native.Mathlib.Omega.{arith}
 use borrow.Author.Tests.{eq-eqb}
@@ -16,7 +16,7 @@ use Rattle.scheme.proofs.Lists.{selects, select-ext}
 use Rattle.rectangle.proofs.Groups.{row-below, column-below}
 use Rattle.groups.specs.Lent.{membersOf}
 use Rattle.groups.proofs.Beside.{one-if, count-changed}
-use Rattle.groups.proofs.Numbers.{members-rising, members-few, home-row, home-column, homes}
+use Rattle.groups.proofs.Numbers.{members-rising, home-row, home-column, homes}
 use Rattle.peeling.specs.Lent.{CountedBy, markedFaulty, Sides, Counted}
 
 -- a list with a member is not empty

@@ -6,7 +6,7 @@ use native.Mathlib.Omega.{arith}
 use lib.Dec.{eqb}
 use lib.ListN.{length, getD, set, List·getD-map}
 use Rattle.scheme.specs.Layer.{Cell}
-use Rattle.scheme.specs.Visit.{Group, State, cellAt, isFaulty, select, faultyOf}
+use Rattle.scheme.specs.Visit.{State, cellAt, isFaulty, select, faultyOf}
 use Rattle.scheme.specs.Repair.{marksOf}
 use Rattle.scheme.proofs.Lists.{select-ext, map-set}
 use Rattle.scheme.proofs.Within.{only-settles}

@@ -1,6 +1,5 @@
 // Passes over all groups, rows 0 upward and then columns 0 upward, in which only rebuilding is done.
 // Public for the crate's other modules; the module is private, and what its functions ask, `forecast` has tested or made.
-ghost use mathlib.Core.Path.{_≡_};
 ghost use Rattle.groups.specs.Lent.{Within, membersOf, numberOf};
 ghost use Rattle.peeling.specs.Lent.{Counted, Visits, Passes, RanPasses};
 use crate::counts;

@@ -2,7 +2,7 @@
 use mathlib.Core.Path.{_≡_, refl, sym, ap, ap₂, _∙_, subst}
 use mathlib.Core.Logic.{inl, inr}
 use mathlib.Core.Bool.{Bool, true, false, not, cond}
-use mathlib.Core.List.{List, [], _∷_, _++_, map, map-map}
+use mathlib.Core.List.{List, [], _∷_, _++_}
 use Prim.Native.Nat.{ℕ, zero, suc, _+_, _*_, _≤_, _<_}
 use native.Mathlib.Nat.{zero-add}
 use native.Mathlib.Omega.{arith}
@@ -12,11 +12,10 @@ use Rattle.gf2.specs.Word.{Word, _⊕_, zeros}
 use Rattle.gf2.proofs.Xor.{xor-comm, length-xor-same}
 use Rattle.gf2.proofs.Crc.{zeros-xor}
 use Rattle.linecode.specs.Places.{linePlaces, lineOf}
-use Rattle.linecode.specs.Code.{upFrom}
 use Rattle.scheme.specs.Layer.{readLine}
 use Rattle.scheme.specs.Visit.{Group, State, lineAt, faultyOf, sum}
 use Rattle.scheme.specs.Repair.{Repaired, readAll, faultyCount, agrees, passesFrom, repair, linesOf, marksOf, answer}
-use Rattle.scheme.specs.Parity.{readParity, unusable, parityAfter}
+use Rattle.scheme.specs.Parity.{readParity, unusable}
 use Rattle.scheme.specs.Demand3.{_∈_}
 use Rattle.scheme.proofs.Width.{read-width}
 use Rattle.rectangle.specs.Store.{lineLayer, placesAt, bytesAt, linesIn, bufferOf, stride, rowGroup, columnGroup, rowGroups, columnGroups}
@@ -29,7 +28,8 @@ use Rattle.groups.specs.Lent.{Beside, Tracked, Carried, Rectangular, Room, Numb
 use Rattle.groups.proofs.Numbers.{by-number, any-numbered, members-inside}
 use Rattle.groups.proofs.Held.{held-count}
 use Rattle.groups.proofs.Joined.{first-at, second-at}
-use Rattle.repair.specs.Lent.{RanPasses, Finished, Started, MarksOf, Fresh, startOf, allGroups}
+use Rattle.parity.specs.Lent.{Started, MarksOf, Fresh, startOf}
+use Rattle.repair.specs.Lent.{RanPasses, Finished, allGroups}
 use Rattle.groups.proofs.Found.{foundGroup, found-row, found-column, found-members}
 use Rattle.repair.proofs.Groups.{startsFrom, starts-zero, all-groups}
 
@@ -255,10 +255,3 @@ module _ (rows columns : ℕ) (out marks : List ℕ) (rect : Rectangular rows co
               → _≡_ {A = StoreRepaired} (record { answer = a; passes = passed; lines = b; marks = c; rowTable = d; columnTable = x })
               (record { answer = a′; passes = passed; lines = b′; marks = c′; rowTable = d′; columnTable = x′ })
           all-five a a′ b b′ c c′ d d′ x x′ i j k l m = cc
-
--- a table handed over line by line
-pub table-after : (s : State) (g : ℕ → Group) (total : ℕ) (table : List ℕ)
-    → table ≡ bufferOf (map (λ (k : ℕ). parityAfter lineLayer s (g k)) (upFrom 0 total))
-    → table ≡ tableAfter lineLayer s (map g (upFrom 0 total))
-unfolding tableAfter
-table-after s g total table e = e ∙ ap bufferOf (sym (map-map (parityAfter lineLayer s) g (upFrom 0 total)))

@@ -1,7 +1,6 @@
 -- Laws of repair on lent buffers.
 pub mod Refusing
 pub mod Groups
-pub mod Tables
 pub mod Counting
 pub mod Passing
 pub mod Running

@@ -1,5 +1,4 @@
 // Repair of a rectangle: document 01's steps on lent buffers. Document 01, "Repair".
-mod parity;
 mod passes;
 
 ghost use mathlib.Core.Path.{_≡_};

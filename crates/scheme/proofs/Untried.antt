@@ -1,5 +1,5 @@
 -- Where no trial took, repair's marks (1 read as 0) and passes are the forecast's.
-use mathlib.Core.Path.{_≡_, refl, sym, ap, ap₂, _∙_, subst}
+use mathlib.Core.Path.{_≡_, refl, sym, ap, ap₂, _∙_}
 use mathlib.Core.Logic.{_⊎_, inl, inr}
 use mathlib.Core.Bool.{Bool, true, false, cond, true≢false}
 use mathlib.Core.List.{List, [], _∷_, map}
@@ -9,7 +9,7 @@ use native.Mathlib.Omega.{arith}
 use borrow.Author.Tests.{eqb-true}
 use lib.Dec.{eqb}
 use lib.ListN.{length, getD, drop, set, List·getD-map}
-use lib.Seq.{getD-set-same, getD-set-other, set-out, ext-getD}
+use lib.Seq.{getD-set-other, ext-getD}
 use Rattle.gf2.specs.Word.{flip}
 use Rattle.scheme.specs.Layer.{Cell, Reading}
 use Rattle.scheme.specs.Visit.{Group, State, cellAt, isFaulty, select, faultyOf, rebuild, rebuildOnly, settle, mismatch, tryPlaces, tryLines, triable, trial, visit}
@@ -17,7 +17,7 @@ use Rattle.scheme.specs.Repair.{Repaired, pass, faultyCount, passesFrom,
 use Rattle.scheme.specs.Forecast.{never, SameLines, NoneByTrial, asForecast, SameMarks, Exact, ForecastExact}
 use Rattle.scheme.proofs.Lists.{select-ext, map-set}
 use Rattle.scheme.proofs.Grows.{Grows, grows-at, grows-refl, grows-trans, grows-length, kept-accepted}
-use Rattle.scheme.proofs.Steps.{settle-grows, trial-grows, visit-grows, pass-grows}
+use Rattle.scheme.proofs.Steps.{settle-grows, trial-grows, pass-grows}
 use Rattle.scheme.proofs.Passes.{by-rounds, no-pass, last-pass, one-more-pass}
 use Rattle.scheme.proofs.Every.{every-passes}
 use Rattle.scheme.proofs.Within.{only-settles}

@@ -2,8 +2,8 @@
 use mathlib.Core.Path.{_≡_, refl, sym, ap, _∙_, subst}
 use mathlib.Core.Logic.{_⊎_, inl, inr}
 use mathlib.Core.Bool.{Bool, true, false, cond, true≢false}
-use mathlib.Core.List.{List, [], _∷_, map}
-use Prim.Native.Nat.{ℕ, zero, suc, _≤_, zero-le}
+use mathlib.Core.List.{List, [], _∷_}
+use Prim.Native.Nat.{ℕ, suc, _≤_, zero-le}
 use native.Mathlib.Decide.{ℕ-discrete}
 use native.Mathlib.Omega.{arith}
 use borrow.Author.Tests.{eqb-true, eq-eqb, eqb-false}
@@ -13,7 +13,7 @@ use Rattle.scheme.specs.Layer.{Cell, Reading}
 use Rattle.scheme.specs.Visit.{Group, State, cellAt, isFaulty, select, faultyOf, rebuild, rebuildOnly, settle, mismatch, tryPlaces, tryLines, triable, trial, visit}
 use Rattle.scheme.specs.Repair.{pass, faultyCount, passesFrom}
 use Rattle.scheme.specs.Demand3.{_∈_}
-use Rattle.scheme.specs.Forecast.{never, SameLines, FaultyWithin, Bounds, ForecastBounds, StoppingSet, ForecastEnds}
+use Rattle.scheme.specs.Forecast.{never, SameLines, FaultyWithin, ForecastBounds, StoppingSet, ForecastEnds}
 use Rattle.scheme.proofs.Lists.{selected}
 use Rattle.scheme.proofs.Grows.{grows-count, none-counted, none-found}
 use Rattle.scheme.proofs.Steps.{not-one, pass-grows}

@@ -94,8 +94,8 @@ struct Told<'a> {
 
 impl Told<'_> {
     /// The lines of this store that are faulty when read alone. Makes sure that
-    /// library and peer say the same of them, and the passes expected if there
-    /// are any.
+    /// library and peer say the same of them, and so many passes where a number
+    /// is expected.
     fn new(store: &Store, expected: Option<u64>) -> Told<'_> {
         let mark = |line| match Doer::Peer.read_line(line, &mut [0; LINE_BYTES]) {
             (10, mark) => mark,

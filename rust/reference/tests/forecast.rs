@@ -120,13 +120,13 @@ fn patterns_are_drawn_in_every_way() {
         let sides = stores::sides(&mut random, 20);
         let lines = sides.0 * sides.1;
         all_lines += lines;
-        for (way, of_way) in Way::ALL.iter().zip(&mut all_faulty) {
-            let faulty = draw::pattern_by(&mut random, sides, *way);
+        for way in Way::ALL {
+            let faulty = draw::pattern_by(&mut random, sides, way);
             let call = draw::call_on(&mut random, sides, faulty);
             let given = call.forecast();
             let marks = |mark: u8| given.marks.iter().filter(|&&of| of == mark).count();
             let (rebuilt, left) = (marks(3), marks(4));
-            *of_way += rebuilt + left;
+            all_faulty[way as usize] += rebuilt + left;
             let fits = match way {
                 Way::Nothing => rebuilt + left == 0,
                 Way::Few => (1..=5).contains(&(rebuilt + left)),
@@ -144,12 +144,12 @@ fn patterns_are_drawn_in_every_way() {
             assert!(fits, "{way:?}, {rebuilt} rebuilt, {left} left of {lines}");
         }
     }
-    // What they are meant to give shows only in all of their patterns together.
-    // Two ways choose more lines than one, which is a tenth of what the ten do.
-    let [_, _, _, scattered, most, .., both] = all_faulty;
-    let others = all_faulty.iter().sum::<usize>() - both;
+    // What these are meant to give shows in all of their patterns together: of two
+    // ways more lines are faulty than of one of the ten on average.
     println!("of {all_lines} lines {all_faulty:?} are faulty");
-    assert!((all_lines / 8..=all_lines / 2).contains(&scattered));
-    assert!((all_lines / 2..=all_lines * 7 / 8).contains(&most));
-    assert!(both > others / 10);
+    let of = |way| all_faulty[way as usize];
+    assert!((all_lines / 8..=all_lines / 2).contains(&of(Way::Scattered)));
+    assert!((all_lines / 2..=all_lines * 7 / 8).contains(&of(Way::Most)));
+    let others = all_faulty.iter().sum::<usize>() - of(Way::Both);
+    assert!(of(Way::Both) > others / (Way::ALL.len() - 1));
 }

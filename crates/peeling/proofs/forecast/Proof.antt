@@ -2,7 +2,6 @@
 use mathlib.Core.Path.{refl, sym, _∙_}
 use Rattle.forecast.proofs.Answers.{sizes}
 use Rattle.peeling.proofs.Foreseeing.{turned-back, sides-fit, foretold}
-use native.Mathlib.Omega.{arith}
 use borrow.Author.Needs.{needs}
 use Rattle.peeling.proofs.forecast.Statement.{statement}
 use Rattle.peeling.proofs.forecast.Tie as tie

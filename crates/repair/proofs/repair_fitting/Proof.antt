@@ -4,7 +4,7 @@ use mathlib.Core.Path.{_≡_, refl, _∙_}
 use mathlib.Core.List.{[], _++_}
 use lib.ListN.{length, replicate}
 use Rattle.groups.specs.Lent.{Tracked}
-use Rattle.repair.specs.Lent.{MarksOf}
+use Rattle.parity.specs.Lent.{MarksOf}
 use Rattle.repair.proofs.Groups.{startsFrom}
 use Rattle.repair.proofs.Refusing.{RepairPass, repair-passes}
 use Rattle.repair.proofs.Handing.{zero-marks-long, started, marked, row-marks, column-marks, same-rect, fresh-rows, fresh-columns, none-left, handed}

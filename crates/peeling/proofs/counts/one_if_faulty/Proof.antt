@@ -1,7 +1,5 @@
 -- `peeling::counts::one_if_faulty` meets its contract.
 use borrow.Author.Tests.{eq-eqb, ne-eqb}
-use borrow.Author.Needs.{needs}
-use native.Mathlib.Omega.{arith}
 use Rattle.peeling.proofs.counts.one_if_faulty.Statement.{statement}
 use Rattle.peeling.proofs.counts.one_if_faulty.Tie as tie
 

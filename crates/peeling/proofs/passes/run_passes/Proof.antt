@@ -2,7 +2,6 @@
 use mathlib.Core.Path.{sym, _∙_}
 use native.Mathlib.Nat.{mul-le-mul-right}
 use Rattle.peeling.proofs.Running.{Running, running-start, running-end, running-idle, running-less, running-next}
-use borrow.Author.Needs.{needs}
 use native.Mathlib.Omega.{arith}
 use Rattle.peeling.proofs.passes.run_passes.Statement.{statement}
 use Rattle.peeling.proofs.passes.run_passes.Tie as tie

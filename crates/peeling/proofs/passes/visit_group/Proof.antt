@@ -2,7 +2,7 @@
 use Rattle.peeling.proofs.Visiting.{listed, chosen-inside, chosen-line, one-inside, one-visited, none-visited}
 use mathlib.Core.Path.{_≡_, sym, subst, _∙_}
 use lib.ListN.{getD}
-use Rattle.groups.specs.Lent.{membersOf, numberOf}
+use Rattle.groups.specs.Lent.{numberOf}
 use Rattle.peeling.specs.Lent.{Visits}
 use native.Mathlib.Omega.{arith}
 use borrow.Author.Needs.{needs}

@@ -1,7 +1,5 @@
 -- `peeling::pattern::mark_of` meets its contract.
 use borrow.Author.Tests.{eq-eqb, ne-eqb}
-use borrow.Author.Needs.{needs}
-use native.Mathlib.Omega.{arith}
 use Rattle.peeling.proofs.pattern.mark_of.Statement.{statement}
 use Rattle.peeling.proofs.pattern.mark_of.Tie as tie
 

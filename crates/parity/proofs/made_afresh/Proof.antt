@@ -1,7 +1,7 @@
--- `repair::parity::made_afresh` meets its contract.
+-- `parity::made_afresh` meets its contract.
 use borrow.Author.Tests.{eq-eqb, ne-eqb}
-use Rattle.repair.proofs.parity.made_afresh.Statement.{statement}
-use Rattle.repair.proofs.parity.made_afresh.Tie as tie
+use Rattle.parity.proofs.made_afresh.Statement.{statement}
+use Rattle.parity.proofs.made_afresh.Tie as tie
 
 returns : tie.Need-returns
 returns c = rw (eq-eqb (c .before .args .mark) 4 (c .if1 .taken))

@@ -1,4 +1,4 @@
--- `repair::parity::read_columns` meets its contract: after c turns the first c parity lines are read.
+-- `parity::read_columns` meets its contract: after c turns the first c parity lines are read.
 use mathlib.Core.Path.{refl, sym, ap, _∙_}
 use Prim.Native.Nat.{_-_}
 use native.Mathlib.Omega.{arith}
@@ -7,10 +7,10 @@ use Rattle.scheme.specs.Parity.{readParity}
 use Rattle.rectangle.specs.Store.{lineLayer, placesAt, columnGroup}
 use Rattle.rectangle.proofs.LineLayer.{parity-read}
 use Rattle.groups.proofs.Joined.{table-line}
-use Rattle.repair.specs.Lent.{startOf}
-use Rattle.repair.proofs.Tables.{Filled, filled-start, filled-put, filled-end, Marked, marked-start, marked-next, read-mark, start-bytes}
-use Rattle.repair.proofs.parity.read_columns.Statement.{statement}
-use Rattle.repair.proofs.parity.read_columns.Tie as tie
+use Rattle.parity.specs.Lent.{startOf}
+use Rattle.parity.proofs.Tables.{Filled, filled-start, filled-put, filled-end, Marked, marked-start, marked-next, read-mark, start-bytes}
+use Rattle.parity.proofs.read_columns.Statement.{statement}
+use Rattle.parity.proofs.read_columns.Tie as tie
 
 abbrev Inv-loop : tie.InvT-loop
 Inv-loop table rows columns column-table column-lacks₀ parity-marks₀ c₀ column-lacks parity-marks c =

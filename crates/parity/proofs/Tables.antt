@@ -2,7 +2,7 @@
 -- as they are handed over.
 use mathlib.Core.Path.{_≡_, refl, sym, ap, _∙_}
 use mathlib.Core.Bool.{Bool, true, false, cond, _&&_, and-eq-true-iff}
-use mathlib.Core.List.{List, map}
+use mathlib.Core.List.{List, map, map-map}
 use Prim.Native.Nat.{ℕ, _+_, _*_, _≤_, _<_}
 use native.Mathlib.Decide.{ℕ-discrete}
 use native.Mathlib.Omega.{arith}
@@ -17,10 +17,11 @@ use Rattle.scheme.specs.Visit.{Group, State, lineAt, sum}
 use Rattle.scheme.specs.Repair.{faultyCount}
 use Rattle.scheme.specs.Parity.{readParity, unusable, parityAfter}
 use Rattle.rectangle.specs.Store.{lineLayer, bytesAt, bufferOf, inBytes, putBytes}
+use Rattle.rectangle.specs.Repair.{tableAfter}
 use Rattle.rectangle.proofs.Buffer.{table-of}
 use Rattle.rectangle.proofs.Spare.{zero-line}
 use Rattle.groups.proofs.Added.{put-length, put-same, put-other}
-use Rattle.repair.specs.Lent.{startOf}
+use Rattle.parity.specs.Lent.{startOf}
 
 -- ---- r lines of so many are written
 pub record Filled (line : ℕ → Word) (total : ℕ) (table₀ table : List ℕ) (r : ℕ) : Type 0 where
@@ -138,3 +139,10 @@ module _ (g : Group) (read : Reading) (read-is : read ≡ inBytes (readParity li
     handed-afresh e table r fresh =
         let both = sym afresh-test ∙ e in
         rw both (fresh (and-eq-true-iff (unusable lineLayer g) (eqb (faultyCount s) 0) .0 both .0))
+
+-- a table handed over line by line
+pub table-after : (s : State) (g : ℕ → Group) (total : ℕ) (table : List ℕ)
+    → table ≡ bufferOf (map (λ (k : ℕ). parityAfter lineLayer s (g k)) (upFrom 0 total))
+    → table ≡ tableAfter lineLayer s (map g (upFrom 0 total))
+unfolding tableAfter
+table-after s g total table e = e ∙ ap bufferOf (sym (map-map (parityAfter lineLayer s) g (upFrom 0 total)))

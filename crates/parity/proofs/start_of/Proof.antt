@@ -1,7 +1,7 @@
--- `repair::parity::start_of` meets its contract.
+-- `parity::start_of` meets its contract.
 use borrow.Author.Tests.{eq-eqb, ne-eqb}
-use Rattle.repair.proofs.parity.start_of.Statement.{statement}
-use Rattle.repair.proofs.parity.start_of.Tie as tie
+use Rattle.parity.proofs.start_of.Statement.{statement}
+use Rattle.parity.proofs.start_of.Tie as tie
 
 returns : tie.Need-returns
 returns c = rw (eq-eqb (c .before .before .args .read .mark) 4 (c .if1 .taken))

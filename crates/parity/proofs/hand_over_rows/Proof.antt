@@ -1,4 +1,4 @@
--- `repair::parity::hand_over_rows` meets its contract: after r turns the first r parity lines are handed over.
+-- `parity::hand_over_rows` meets its contract: after r turns the first r parity lines are handed over.
 use mathlib.Core.Path.{_≡_, refl, sym, ap, _∙_}
 use mathlib.Core.Logic.{⊎-elim}
 use mathlib.Core.Bool.{_&&_}
@@ -16,11 +16,10 @@ use Rattle.scheme.specs.Parity.{parityAfter}
 use Rattle.rectangle.specs.Store.{lineLayer, bytesAt, placesAt, rowGroup}
 use Rattle.rectangle.proofs.LineLayer.{parity-read}
 use Rattle.groups.proofs.Joined.{table-line}
-use Rattle.repair.specs.Lent.{Fresh}
-use Rattle.repair.proofs.Tables.{Filled, filled-start, filled-put, filled-kept, filled-table, handed-read, handed-afresh}
-use Rattle.repair.proofs.Handing.{table-after}
-use Rattle.repair.proofs.parity.hand_over_rows.Statement.{statement}
-use Rattle.repair.proofs.parity.hand_over_rows.Tie as tie
+use Rattle.parity.specs.Lent.{Fresh}
+use Rattle.parity.proofs.Tables.{Filled, filled-start, filled-put, filled-kept, filled-table, table-after, handed-read, handed-afresh}
+use Rattle.parity.proofs.hand_over_rows.Statement.{statement}
+use Rattle.parity.proofs.hand_over_rows.Tie as tie
 
 abbrev Inv-loop : tie.InvT-loop
 Inv-loop table rows row-table row-lacks₀ parity-marks whole r₀ row-lacks r =

@@ -1,4 +1,4 @@
--- `repair::parity::read_rows` meets its contract: after r turns the first r parity lines are read.
+-- `parity::read_rows` meets its contract: after r turns the first r parity lines are read.
 use mathlib.Core.Path.{sym, ap, _∙_}
 use Prim.Native.Nat.{ℕ, _-_}
 use native.Mathlib.Nat.{zero-add}
@@ -8,10 +8,10 @@ use Rattle.scheme.specs.Parity.{readParity}
 use Rattle.rectangle.specs.Store.{lineLayer, placesAt, rowGroup}
 use Rattle.rectangle.proofs.LineLayer.{parity-read}
 use Rattle.groups.proofs.Joined.{table-line}
-use Rattle.repair.specs.Lent.{startOf}
-use Rattle.repair.proofs.Tables.{Filled, filled-start, filled-put, filled-end, Marked, marked-start, marked-next, read-mark, start-bytes}
-use Rattle.repair.proofs.parity.read_rows.Statement.{statement}
-use Rattle.repair.proofs.parity.read_rows.Tie as tie
+use Rattle.parity.specs.Lent.{startOf}
+use Rattle.parity.proofs.Tables.{Filled, filled-start, filled-put, filled-end, Marked, marked-start, marked-next, read-mark, start-bytes}
+use Rattle.parity.proofs.read_rows.Statement.{statement}
+use Rattle.parity.proofs.read_rows.Tie as tie
 
 abbrev Inv-loop : tie.InvT-loop
 Inv-loop table rows row-table row-lacks₀ parity-marks₀ r₀ row-lacks parity-marks r =

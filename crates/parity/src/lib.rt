@@ -1,5 +1,5 @@
 // The parity lines: read alone before the first reading of the lines, and handed over after the last pass. Request Q-3.
-// Public for the crate's other modules; the module is private, and what its functions ask, `repair::repair` has tested or made.
+// Public for `repair`, which has tested or made what these ask; not entry points.
 ghost use mathlib.Core.Path.{_≡_};
 ghost use mathlib.Core.Bool.{cond, _&&_};
 ghost use Prim.Native.Nat.{ℕ, _*_, _≤_};
@@ -11,7 +11,7 @@ ghost use Rattle.scheme.specs.Repair.{faultyCount};
 ghost use Rattle.rectangle.specs.Store.{lineLayer, rowGroup, columnGroup, rowGroups, columnGroups};
 ghost use Rattle.rectangle.specs.Repair.{tableAfter};
 ghost use Rattle.line_table.specs.Table.{lineTable};
-ghost use Rattle.repair.specs.Lent.{Started, MarksOf, Fresh};
+ghost use Rattle.parity.specs.Lent.{Started, MarksOf, Fresh};
 use groups::tracked;
 use groups::tracked::Which;
 use linecode::alone::Reading;

@@ -1,11 +1,11 @@
--- `repair::parity::read_again` meets its contract.
+-- `parity::read_again` meets its contract.
 use borrow.Author.Needs.{needs}
 use mathlib.Core.Path.{ap, _∙_}
 use Rattle.linecode.specs.declared.alone.Reading.{Reading}
 use Rattle.linecode.proofs.Bytes.{array-length}
 use Rattle.rectangle.proofs.LineLayer.{read-unchanged}
-use Rattle.repair.proofs.parity.read_again.Statement.{statement}
-use Rattle.repair.proofs.parity.read_again.Tie as tie
+use Rattle.parity.proofs.read_again.Statement.{statement}
+use Rattle.parity.proofs.read_again.Tie as tie
 
 read-requires : tie.Need-read-requires
 read-requires c κs = search needs

@@ -1,0 +1,2 @@
+-- Laws of tables that are filled line by line.
+pub mod Tables
