@@ -85,6 +85,14 @@ pub record FaultySo (r : Rectangle) (pattern : List ℕ) : Type 0 where
   pub names : NamesFaulty r pattern
   pub noOther : (n : ℕ) → n < count r → acceptedAt (r .lines) n ≡ true → getD pattern n 0 ≡ 0
 
+-- such a rectangle and pattern there are, with a line that is faulty and one that is not
+pub record FaultySoMet : Type 0 where
+  pub rectangle : Rectangle
+  pub pattern : List ℕ
+  pub so : FaultySo rectangle pattern
+  pub named : (n : ℕ) × (n < count rectangle) × (acceptedAt (rectangle .lines) n ≡ false)
+  pub whole : (n : ℕ) × (n < count rectangle) × (acceptedAt (rectangle .lines) n ≡ true)
+
 -- marks, 1 read as 0, and passes are those foreseen
 pub record AsForeseen (given : List ℕ) (number : ℕ) (foreseen : Forecast) : Type 0 where
   pub marks : map asForecast given ≡ foreseen .marks
