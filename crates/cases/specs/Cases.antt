@@ -3,10 +3,9 @@ use mathlib.Core.List.{List, [], _∷_}
 use Prim.Native.Nat.{ℕ}
 use Rattle.sampling.specs.Rows.{Store, Sample, wasMarked, mends, repairs, changes, reads, hurt, clean, last}
 
--- cases without a star: the marks of before, and one at which a plausible and false way of repair would give other marks. The mismatch is
--- worked out once in a visit:
--- of {1, 3, 4} line 0 takes place 1; worked out again it would be {0, 3, 4}, and line 1 would be mended by trial too. Then request Q-2's:
--- a change's own row and column, and no other
+-- the marks of before, and one at which a plausible and false way of repair would give other marks. The mismatch is worked out once in a
+-- visit: of {1, 3, 4} line 0 takes place 1; worked out again it would be {0, 3, 4}, and line 1 would be mended by trial too. Then request
+-- Q-2's: a change's own row and column, and no other
 abbrev pub cases : List Sample
 cases =
     wasMarked (0 ∷ []) 1

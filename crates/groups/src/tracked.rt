@@ -2,7 +2,7 @@
 // lines are faulty; and the mark with which its parity line was read. A row's are reached by its RowIndex, a column's by its ColumnIndex.
 // The differences stand in the two lent tables, each direction's in its own, where `lines` reaches them; of the counts and marks no other
 // body knows where they are kept, though contracts say it: the rows' first, the columns' from number `rows` on.
-// Public for `mending`, `first_reading`, `repair` and `peeling`, which have tested or made what these ask; not entry points.
+// Public for `mending`, `parity`, `first_reading`, `repair` and `peeling`, which have tested or made what these ask; not entry points.
 ghost use mathlib.Core.Path.{_≡_};
 ghost use mathlib.Core.Bool.{not};
 ghost use Prim.Native.Nat.{_+_, _-_, _≤_, _<_};

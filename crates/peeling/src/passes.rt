@@ -7,7 +7,7 @@ use groups::tracked;
 use groups::tracked::Which;
 
 // A visit: if exactly one line of the group is faulty, it is rebuilt. A group comes to this once at most, so that all searches for such
-// a line together look at each line twice.
+// a line together look at each line at most twice.
 fn visit_group(marks: &mut [u8], faulty: &mut [u16], rows: usize, columns: usize, which: Which)
     requires { ⌜ Counted rows columns (now marks) (now faulty) × Within rows columns which ⌝ }
     ensures { λ _. ⌜ Visits (membersOf rows columns (numberOf rows which)) (now (marks .entry)) (now (marks .exit))

@@ -1,4 +1,4 @@
--- The faulty lines of the rows together are those of the store, and what stands beside the groups decides the answer.
+-- What stands beside the groups decides the answer.
 use mathlib.Core.Path.{_≡_, refl, sym, ap, ap₂, _∙_}
 use mathlib.Core.Bool.{Bool, true, false, cond, _&&_, _||_}
 use mathlib.Core.List.{List, [], _∷_, map}

@@ -20,7 +20,7 @@ pub record Store : Type 0 where
   pub rowTable : List (List ℕ)
   pub columnTable : List (List ℕ)
 
--- a row of the table
+-- a row of a table
 pub data Sample : Type 0 where
   -- these data give this line
   writes : List ℕ → List ℕ → Sample

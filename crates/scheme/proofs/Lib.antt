@@ -1,6 +1,7 @@
 -- Laws of the SuDoku steps, over any list of groups: accepted lines stay (Stays), accepted marks decide nothing (Readings), how much
--- decides one line (OneLine), the passes (Passes), demand 3 (ExactReturn, NotAlike), no line mended into another (NoneWrong), parity
--- lines read alone (Parity, Used), accepted lines are correct (Sound), and what these rest on.
+-- decides one line (OneLine), the passes (Passes, Running), demand 3 (ExactReturn, NotAlike), no line mended into another (NoneWrong),
+-- parity lines read alone (Parity, Used), accepted lines are correct (Sound), what rebuilding alone leaves (Within, Untried), and what
+-- these rest on.
 pub mod Case
 pub mod Lists
 pub mod Words

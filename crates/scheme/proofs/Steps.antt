@@ -1,4 +1,5 @@
--- A rebuilding, the trials, a visit and a pass grow the store, whatever the groups and the reading are.
+-- A rebuilding, the trials, a visit and a pass grow the store, whatever the groups and the reading are; a group that has not exactly one
+-- faulty line is left as it is.
 use mathlib.Core.Path.{_≡_, refl}
 use mathlib.Core.Logic.{inl}
 use mathlib.Core.Bool.{Bool, true, false, cond}
