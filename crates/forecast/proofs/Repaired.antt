@@ -1,7 +1,7 @@
 -- What the forecast tells of repair: it bounds what repair leaves faulty, and where no trial took it is repair.
 use mathlib.Core.Path.{_≡_, refl, sym, ap, ap₂, _∙_}
 use mathlib.Core.Logic.{_⊎_, _↔_, inl, inr}
-use mathlib.Core.Bool.{Bool, true, false, not, cond}
+use mathlib.Core.Bool.{true, false, not}
 use mathlib.Core.List.{List, [], _∷_, _++_, map, map-map, map-append}
 use Prim.Native.Nat.{ℕ, zero, suc, _≤_, _<_}
 use native.Mathlib.Decide.{decLt}
@@ -63,13 +63,6 @@ byte-mark byte mark so (inl low) =
     low-mark mark low ∙ ap (λ b. flagged b .mark) (sym (so .1 (ap not (ne-eqb mark 4 (λ e. omega arith)))))
 byte-mark byte mark so (inr four) =
     ap asForecast four ∙ sym (byte-faulty byte .1 (λ z. eqb-false mark 4 (not-true _ (so .0 z)) four))
-
-not-two : (byte : ℕ) → flagged byte .mark ≡ 2 → ⊥
-not-two byte = go (eqb byte 0)
-  where
-    go : (b : Bool) → _≡_ {A = ℕ} (cond b 0 4) 2 → ⊥
-    go true e = omega arith
-    go false e = omega arith
 
 module _ (r : Rectangle) where
   -- the first reading of all lines
@@ -139,15 +132,9 @@ module _ (r : Rectangle) where
     unfolding repairedBy repair foreseenIn foreseen first
     exact = forecast-exact .byPasses (readLine lineLayer) _ _ (same-lines pattern (so .names)) first (map flagged pattern) same-marks
 
-    -- a reading alone gives no mark 2
-    none-tried : NoneByTrial first
-    none-tried n e =
-        let two : getD (map asForecast (marksOf first)) n 0 ≡ 2 = List·getD-map asForecast (marksOf first) n 0 ∙ ap asForecast (mark-at first n ∙ e) in
-        not-two (getD pattern n 0) (sym (byte-at pattern n) ∙ ap (λ (marks : List ℕ). getD marks n 0) (sym same-marks) ∙ two)
-
     untried : Exact (untriedOn r) (foreseenIn (r .rows) (r .columns) pattern)
     unfolding untriedOn foreseenIn foreseen first
-    untried = forecast-exact .untried _ _ (same-lines pattern (so .names)) first (map flagged pattern) same-marks none-tried
+    untried = forecast-exact .untried _ _ (same-lines pattern (so .names)) first (map flagged pattern) same-marks
 
 -- and no forecast for such a rectangle is refused
 answered : (r : Rectangle) (b : Buffers) (pattern marks : List ℕ) → NamesFaulty r pattern → length marks ≡ count r

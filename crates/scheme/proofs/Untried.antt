@@ -1,7 +1,7 @@
 -- Where no trial took, repair's marks (1 read as 0) and passes are the forecast's.
 use mathlib.Core.Path.{_≡_, refl, sym, ap, ap₂, _∙_}
 use mathlib.Core.Logic.{_⊎_, inl, inr}
-use mathlib.Core.Bool.{Bool, true, false, cond, true≢false}
+use mathlib.Core.Bool.{Bool, true, false, cond}
 use mathlib.Core.List.{List, [], _∷_, map}
 use Prim.Native.Nat.{ℕ, zero, suc, _<_}
 use native.Mathlib.Decide.{ℕ-discrete}
@@ -19,7 +19,6 @@ use Rattle.scheme.proofs.Lists.{select-ext, map-set}
 use Rattle.scheme.proofs.Grows.{Grows, grows-at, grows-refl, grows-trans, grows-length, kept-accepted}
 use Rattle.scheme.proofs.Steps.{settle-grows, trial-grows, pass-grows}
 use Rattle.scheme.proofs.Passes.{by-rounds, no-pass, last-pass, one-more-pass}
-use Rattle.scheme.proofs.Every.{every-passes}
 use Rattle.scheme.proofs.Within.{only-settles}
 
 -- ---- a trial that took is seen by its mark
@@ -149,71 +148,70 @@ same-count (c ∷ s) (d ∷ t) same =
         both true h = ap suc h
         both false h = h
 
-same-visit : (read : Reading) (g h : Group) → g .members ≡ h .members → (s t : State) → SameMarks s t
-    → NoneByTrial (visit read g s) → SameMarks (visit read g s) (visit never h t)
-same-visit read g h e s t same none = rw (no-trial-visit read g s (λ n e. absurd (none n e)), only-settles h t) (same-settle s t same g h e)
+-- ---- where the store that is reached tells that no trial took, a visit only settles: a pass keeps the marks, and so do all passes
+module _ (read : Reading) (Untried : State → Type 0) (settles : (g : Group) (s : State) → Untried (visit read g s) → visit read g s ≡ settle g s)
+    (before : (s t : State) → Grows s t → Untried t → Untried s) where
+  same-visit : (g h : Group) → g .members ≡ h .members → (s t : State) → SameMarks s t → Untried (visit read g s)
+      → SameMarks (visit read g s) (visit never h t)
+  same-visit g h e s t same none = rw (settles g s none, only-settles h t) (same-settle s t same g h e)
 
-same-pass : (read : Reading) (gs hs : List Group) → SameLines gs hs → (s t : State) → SameMarks s t
-    → NoneByTrial (pass read gs s) → SameMarks (pass read gs s) (pass never hs t)
-same-pass read [] [] lines s t same none = same
-same-pass read [] (h ∷ hs) lines s t same none = let z : ⊥ = omega (arith, ap length lines) in absurd z
-same-pass read (g ∷ gs) [] lines s t same none = let z : ⊥ = omega (arith, ap length lines) in absurd z
-same-pass read (g ∷ gs) (h ∷ hs) lines s t same none =
-    same-pass read gs hs (ap (drop 1) lines) _ _
-    (same-visit read g h (ap (λ (l : List (List ℕ)). getD l 0 []) lines) s t same (none-before (pass-grows read gs (visit read g s)) none))
-    none
+  same-pass : (gs hs : List Group) → SameLines gs hs → (s t : State) → SameMarks s t → Untried (pass read gs s)
+      → SameMarks (pass read gs s) (pass never hs t)
+  same-pass [] [] lines s t same none = same
+  same-pass [] (h ∷ hs) lines s t same none = let z : ⊥ = omega (arith, ap length lines) in absurd z
+  same-pass (g ∷ gs) [] lines s t same none = let z : ⊥ = omega (arith, ap length lines) in absurd z
+  same-pass (g ∷ gs) (h ∷ hs) lines s t same none =
+      same-pass gs hs (ap (drop 1) lines) _ _
+      (same-visit g h (ap (λ (l : List (List ℕ)). getD l 0 []) lines) s t same (before _ _ (pass-grows read gs (visit read g s)) none))
+      none
 
--- ---- and all passes
-module _ (read : Reading) (gs hs : List Group) (lines : SameLines gs hs) where
-  -- what repair has left, and that the forecast of the same marks is the same
-  abbrev Same : State → Repaired → Type 0
-  Same s r = Grows s (r .cells) × (NoneByTrial (r .cells) → (t : State) → SameMarks s t → Exact r (passesFrom never hs t))
+  module _ (gs hs : List Group) (lines : SameLines gs hs) where
+    -- what repair has left, and that the forecast of the same marks is the same
+    abbrev Same : State → Repaired → Type 0
+    Same s r = Grows s (r .cells) × (Untried (r .cells) → (t : State) → SameMarks s t → Exact r (passesFrom never hs t))
 
-  same-passes : (s : State) → Same s (passesFrom read gs s)
-  same-passes = by-rounds read gs Same none idle more
-    where
-      none : (s : State) → faultyCount s ≡ 0 → Same s (record { cells = s; passes = 0 })
-      none s e = (
-        grows-refl s,
-        λ untried t same.
-            rw (no-pass never hs t (sym (same-count s t same) ∙ e)) (record { marks = same; passes = refl }),
-      )
+    same-passes : (s : State) → Same s (passesFrom read gs s)
+    same-passes = by-rounds read gs Same none idle more
+      where
+        none : (s : State) → faultyCount s ≡ 0 → Same s (record { cells = s; passes = 0 })
+        none s e = (
+          grows-refl s,
+          λ untried t same.
+              rw (no-pass never hs t (sym (same-count s t same) ∙ e)) (record { marks = same; passes = refl }),
+        )
 
-      idle : (s : State) → (faultyCount s ≡ 0 → ⊥) → pass read gs s ≡ s → Same s (record { cells = pass read gs s; passes = 1 })
-      idle s some e = (
-        pass-grows read gs s,
-        λ untried t same.
-            let after = same-pass read gs hs lines s t same untried in
-            let still : faultyCount (pass never hs t) ≡ faultyCount t =
-            sym (same-count (pass read gs s) (pass never hs t) after) ∙ ap faultyCount e ∙ same-count s t same in
-            rw (last-pass never hs t (λ z. some (same-count s t same ∙ z)) still)
-            (record { marks = after; passes = refl }),
-      )
+        idle : (s : State) → (faultyCount s ≡ 0 → ⊥) → pass read gs s ≡ s → Same s (record { cells = pass read gs s; passes = 1 })
+        idle s some e = (
+          pass-grows read gs s,
+          λ untried t same.
+              let after = same-pass gs hs lines s t same untried in
+              let still : faultyCount (pass never hs t) ≡ faultyCount t =
+              sym (same-count (pass read gs s) (pass never hs t) after) ∙ ap faultyCount e ∙ same-count s t same in
+              rw (last-pass never hs t (λ z. some (same-count s t same ∙ z)) still)
+              (record { marks = after; passes = refl }),
+        )
 
-      more : (s : State) (later : Repaired) → faultyCount (pass read gs s) < faultyCount s → Same (pass read gs s) later
-          → Same s (record { cells = later .cells; passes = suc (later .passes) })
-      more s later less rest = (
-        grows-trans (pass-grows read gs s) (rest .0),
-        λ untried t same.
-            let after = same-pass read gs hs lines s t same (none-before (rest .0) untried) in
-            let exact = rest .1 untried (pass never hs t) after in
-            let count = same-count s t same in
-            let left = same-count (pass read gs s) (pass never hs t) after in
-            rw (one-more-pass never hs t (λ (z : faultyCount t ≡ 0). omega arith)
-            (λ (z : faultyCount (pass never hs t) ≡ faultyCount t). omega arith))
-            (record { marks = exact .marks; passes = ap suc (exact .passes) }),
-      )
-
--- a reading that accepts nothing gives no line mark 2
-never-tried : (gs : List Group) (s : State) → NoneByTrial s → NoneByTrial (passesFrom never gs s .cells)
-never-tried gs s none =
-    every-passes (λ n c. c .mark ≡ 2 → ⊥) never (λ n p c faulty h accepted. absurd (true≢false accepted)) gs
-    (λ g i t every n listed faulty rest e. omega arith) s none
+        more : (s : State) (later : Repaired) → faultyCount (pass read gs s) < faultyCount s → Same (pass read gs s) later
+            → Same s (record { cells = later .cells; passes = suc (later .passes) })
+        more s later less rest = (
+          grows-trans (pass-grows read gs s) (rest .0),
+          λ untried t same.
+              let after = same-pass gs hs lines s t same (before _ _ (rest .0) untried) in
+              let exact = rest .1 untried (pass never hs t) after in
+              let count = same-count s t same in
+              let left = same-count (pass read gs s) (pass never hs t) after in
+              rw (one-more-pass never hs t (λ (z : faultyCount t ≡ 0). omega arith)
+              (λ (z : faultyCount (pass never hs t) ≡ faultyCount t). omega arith))
+              (record { marks = exact .marks; passes = ap suc (exact .passes) }),
+        )
 
 pub forecast-exact : ForecastExact
 forecast-exact =
     record {
       byVisit = λ read g s none. no-trial-visit read g s none ∙ sym (only-settles g s);
-      byPasses = λ read gs hs lines s t same none. same-passes read gs hs lines s .1 none t same;
-      untried = λ gs hs lines s t same none. same-passes never gs hs lines s .1 (never-tried gs s none) t same;
+      byPasses = λ read gs hs lines s t same none.
+          same-passes read NoneByTrial (λ g u free. no-trial-visit read g u (λ n e. absurd (free n e))) (λ u v g. none-before g) gs hs lines s
+          .1 none t same;
+      untried = λ gs hs lines s t same.
+          same-passes never (λ u. Unit {0}) (λ g u free. only-settles g u) (λ u v g free. tt) gs hs lines s .1 tt t same;
     }

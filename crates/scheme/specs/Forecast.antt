@@ -68,7 +68,7 @@ pub record ForecastExact : Type 0 where
   pub byPasses : (read : Reading) (gs hs : List Group) → SameLines gs hs → (s t : State) → SameMarks s t
       → NoneByTrial (passesFrom read gs s .cells) → Exact (passesFrom read gs s) (passesFrom never hs t)
   -- and where one would take, those of repair's passes without trials are: lines and parity lines do not matter
-  pub untried : (gs hs : List Group) → SameLines gs hs → (s t : State) → SameMarks s t → NoneByTrial s
+  pub untried : (gs hs : List Group) → SameLines gs hs → (s t : State) → SameMarks s t
       → Exact (passesFrom never gs s) (passesFrom never hs t)
 
 -- no group holds exactly one faulty line: a stopping set, as the field calls it
