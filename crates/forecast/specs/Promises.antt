@@ -31,11 +31,13 @@ abbrev pub ForecastAnswers : Type 0
 ForecastAnswers =
     (rows columns : ℕ) (pattern marks : List ℕ) → AnswersOnly rows columns pattern marks (forecast rows columns pattern marks)
 
--- ---- "the marks (0 for whole) and passes": a mark for each line, 0 exactly for those whole before, 3 rebuilt or 4 faulty for the others;
--- passes are 0 exactly if none was faulty, and never more than the lines that were
+-- ---- "the marks (0 for whole) and passes"
+-- the number of bytes other than 0
 unfoldable pub faultyBytes : List ℕ → ℕ
 faultyBytes pattern = length (select (λ byte. not (eqb byte 0)) pattern)
 
+-- a mark for each line, 0 exactly for those whole before, 3 rebuilt or 4 faulty for the others; passes are 0 exactly if none was faulty,
+-- and never more than the lines that were
 pub record Foreseen (lines : ℕ) (pattern : List ℕ) (given : Forecast) : Type 0 where
   pub each : length (given .marks) ≡ lines
   pub whole : (n : ℕ) → (getD (given .marks) n 0 ≡ 0) ↔ (getD pattern n 0 ≡ 0)

@@ -60,6 +60,7 @@ pub record Exact (repaired forecast : Repaired) : Type 0 where
   pub marks : SameMarks (repaired .cells) (forecast .cells)
   pub passes : repaired .passes ≡ forecast .passes
 
+-- where the forecast is exact: its marks and passes are those that repair gives, or would give
 pub record ForecastExact : Type 0 where
   -- a visit that mends no line by trial is one with a reading that accepts nothing
   pub byVisit : (read : Reading) (g : Group) (s : State) → ((n : ℕ) → cellAt (visit read g s) n .mark ≡ 2 → cellAt s n .mark ≡ 2)
