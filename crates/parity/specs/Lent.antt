@@ -1,4 +1,5 @@
--- What reading and handing over the parity lines ask of lent buffers, and what they make of the tables in them, for groups of any direction.
+-- What reading and handing over the parity lines ask of lent buffers, and what they make of the tables in them; for groups of any
+-- direction.
 use mathlib.Core.Path.{_≡_}
 use mathlib.Core.Bool.{true, cond}
 use mathlib.Core.List.{List}
