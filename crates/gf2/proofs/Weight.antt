@@ -1,13 +1,13 @@
 -- Weight and distance: parts of words, a place turned over, words that differ in one place.
-use mathlib.Core.Path.{_≡_, refl, sym, ap, ap₂, _∙_, subst}
+use mathlib.Core.Path.{_≡_, refl, ap, _∙_, subst}
 use mathlib.Core.Bool.{Bool, true, false, not}
-use mathlib.Core.List.{List, [], _∷_, _++_}
+use mathlib.Core.List.{[], _∷_, _++_}
 use mathlib.Core.Logic.{_⊎_, inl, inr}
 use Prim.Native.Nat.{ℕ, zero, suc, _+_, _≤_, _<_}
 use native.Mathlib.Nat.{suc-inj, le-refl, le-of-suc-le-suc, not-suc-le-zero, zero-lt-suc, zero-add, suc-add}
 use native.Mathlib.Omega.{arith}
 use lib.ListN.{length, take, drop}
-use Rattle.gf2.specs.Word.{Word, _⊻_, _⊕_, zeros, weight, distance, flip}
+use Rattle.gf2.specs.Word.{Word, _⊕_, zeros, weight, distance, flip}
 use Rattle.gf2.proofs.Xor.{xor-self, take-xor}
 
 pub weight-zeros : (n : ℕ) → weight (zeros n) ≡ 0
@@ -26,28 +26,21 @@ weight-take (suc n) (true ∷ x) = let h = weight-take n x in omega arith
 pub distance-take : (n : ℕ) (x y : Word) → distance (take n x) (take n y) ≤ distance x y
 distance-take n x y = subst (λ (z : Word). weight z ≤ distance x y) (take-xor n x y) (weight-take n (x ⊕ y))
 
-weight-cons : (a b : Bool) (x y : Word) → weight x ≤ suc (weight y) → weight (a ∷ x) ≤ suc (weight (a ∷ y))
-weight-cons false b x y h = h
-weight-cons true b x y h = omega arith
-
-pub distance-flip : (i : ℕ) (x y : Word) → distance (flip i x) y ≤ suc (distance x y)
-distance-flip i [] y = omega arith
-distance-flip zero (false ∷ x) [] = omega arith
-distance-flip zero (true ∷ x) [] = omega arith
-distance-flip zero (false ∷ x) (false ∷ y) = omega arith
-distance-flip zero (false ∷ x) (true ∷ y) = omega arith
-distance-flip zero (true ∷ x) (false ∷ y) = omega arith
-distance-flip zero (true ∷ x) (true ∷ y) = omega arith
-distance-flip (suc i) (a ∷ x) [] = weight-cons a a (flip i x) x (nil x (distance-flip i x []))
-  where
-    nil : (x : Word) → weight (flip i x ⊕ []) ≤ suc (weight (x ⊕ [])) → weight (flip i x) ≤ suc (weight x)
-    nil [] h = omega arith
-    nil (a ∷ x) h = rest (flip i (a ∷ x)) h
-      where
-        rest : (z : Word) → weight (z ⊕ []) ≤ suc (weight (a ∷ x)) → weight z ≤ suc (weight (a ∷ x))
-        rest [] h = omega arith
-        rest (b ∷ z) h = h
-distance-flip (suc i) (a ∷ x) (b ∷ y) = weight-cons (a ⊻ b) b (flip i x ⊕ y) (x ⊕ y) (distance-flip i x y)
+-- a flip adds at most one damaged place
+pub distance-flip : (w x : Word) (p : ℕ) → distance w (flip p x) ≤ suc (distance w x)
+distance-flip w [] p = omega arith
+distance-flip [] (false ∷ x) zero = le-refl _
+distance-flip [] (true ∷ x) zero = omega arith
+distance-flip [] (false ∷ x) (suc p) = distance-flip [] x p
+distance-flip [] (true ∷ x) (suc p) = omega (arith, distance-flip [] x p)
+distance-flip (false ∷ w) (false ∷ x) zero = omega arith
+distance-flip (false ∷ w) (true ∷ x) zero = omega arith
+distance-flip (true ∷ w) (false ∷ x) zero = omega arith
+distance-flip (true ∷ w) (true ∷ x) zero = omega arith
+distance-flip (false ∷ w) (false ∷ x) (suc p) = distance-flip w x p
+distance-flip (false ∷ w) (true ∷ x) (suc p) = omega (arith, distance-flip w x p)
+distance-flip (true ∷ w) (false ∷ x) (suc p) = omega (arith, distance-flip w x p)
+distance-flip (true ∷ w) (true ∷ x) (suc p) = distance-flip w x p
 
 pub length-flip : (i : ℕ) (x : Word) → length (flip i x) ≡ length x
 length-flip i [] = refl

@@ -23,6 +23,18 @@ numbered s h =
     none zero h e = refl
     none (suc s) h e = absurd (some-place (suc s) (omega arith) h e)
 
+apart : _≡_ {A = ℕ} 0 1 → ⊥
+apart z = omega arith
+
+-- a protected place is answered to its own position alone
+pub protected-position : (s i : ℕ) → answerTo s ≡ Protected i → (i < 543) × (getD positions i 0 ≡ s)
+protected-position s i =
+    by-case s (λ (a : Answer). a ≡ Protected i → (i < 543) × (getD positions i 0 ≡ s))
+    (λ (j : ℕ) (l : j < 543) (e : getD positions j 0 ≡ s) (q : Protected j ≡ Protected i).
+    let same : j ≡ i = cc in (omega arith, ap (λ (n : ℕ). getD positions n 0) (sym same) ∙ e))
+    (λ (k : ℕ) (l : k < 10) (e : 2 ^ k ≡ s) (q : Hamming k ≡ Protected i). let z : _≡_ {A = ℕ} 0 1 = cc in absurd (apart z))
+    (λ (e : indexOf s columns ≡ 553) (q : None ≡ Protected i). let z : _≡_ {A = ℕ} 0 1 = cc in absurd (apart z))
+
 -- a Hamming place is answered to its own power of two alone
 pub hamming-power : (s k : ℕ) → answerTo s ≡ Hamming k → (k < 10) × (s ≡ 2 ^ k)
 hamming-power s k =
@@ -31,9 +43,6 @@ hamming-power s k =
     (λ (j : ℕ) (l : j < 10) (e : 2 ^ j ≡ s) (q : Hamming j ≡ Hamming k).
     let same : j ≡ k = cc in (omega arith, sym e ∙ ap (λ (n : ℕ). 2 ^ n) same))
     (λ (e : indexOf s columns ≡ 553) (q : None ≡ Hamming k). let z : _≡_ {A = ℕ} 0 1 = cc in absurd (apart z))
-  where
-    apart : _≡_ {A = ℕ} 0 1 → ⊥
-    apart z = omega arith
 
 pub place-named : (s : ℕ) → 1 ≤ s → s ≤ 553 → getD columns (placeOf (answerTo s)) 0 ≡ s
 unfolding placeOf protectedPlaces

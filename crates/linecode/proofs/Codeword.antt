@@ -5,7 +5,7 @@ use mathlib.Core.List.{List, [], _∷_, _++_, append-assoc}
 use Prim.Native.Nat.{ℕ, _+_, _-_, _/_, _%_, _^_, _<_}
 use native.Mathlib.Omega.{arith}
 use lib.Dec.{T, eqb}
-use lib.ListN.{length, take, drop, length-append, length-drop, take-append-drop}
+use lib.ListN.{length, take, length-append, length-drop, take-append-drop}
 use lib.Seq.{length-take-le, take-take, take-at, take-append-add, sets}
 use Rattle.gf2.specs.Word.{Word, digits, number, same}
 use Rattle.gf2.specs.Check.{divisible, crc, columnSum}
@@ -14,7 +14,7 @@ use Rattle.gf2.proofs.Digits.{length-digits, number-small, number-lt, digits-nu
 use Rattle.gf2.proofs.Same.{same-refl, same-equal, same-append, same-comm, same-number}
 use Rattle.gf2.proofs.Crc.{length-crc, divisible-crc}
 use Rattle.linecode.specs.Places.{dataPlaces, protectedPlaces, linePlaces, bitsOf, places, lineOf}
-use Rattle.linecode.specs.Code.{protected, dataOf, storedCrc, storedHamming, accepted, positions, hamming, withCrc, withHamming, codeword, isCorrect, Correct}
+use Rattle.linecode.specs.Code.{protected, dataOf, storedCrc, storedHamming, accepted, positions, hamming, withCrc, withHamming, codeword, isCorrect}
 use Rattle.linecode.proofs.Bytes.{Bytes}
 use Rattle.linecode.proofs.Line.{protected-is, data-is, places-is, dataOf-line, length-places}
 use Rattle.linecode.proofs.Positions.{length-positions, hamming-digits, withHamming-digits, position-sum-lt}
@@ -163,16 +163,6 @@ module _ (d : Word) (full : length d ≡ dataPlaces) where
   dataOf-codeword =
       ap (take dataPlaces) (append-assoc d (crc generator d) (hamming (withCrc d)))
       ∙ take-at d (crc generator d ++ hamming (withCrc d)) dataPlaces full
-
--- the CRC worked out and the stored one are the same number exactly where the word is divisible
-pub crc-agrees : (l : List ℕ) (worked stored : ℕ) → length l ≡ 70 → worked ≡ number (crc generator (dataOf (places l)))
-    → stored ≡ number (storedCrc (places l)) → eqb worked stored ≡ accepted (places l)
-crc-agrees l worked stored e f g =
-    let w = places l in
-    let whole = length-places l e in
-    ap₂ eqb f g
-    ∙ same-number (crc generator (dataOf w)) (storedCrc w) (length-crc generator (dataOf w) ∙ sym (length-storedCrc w whole))
-    ∙ sym (accepted-crc w whole)
 
 -- ---- the CRC and the sum of positions, both worked out from the data alone, stored after them
 -- bit 31 of a register is past the last position

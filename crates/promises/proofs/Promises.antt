@@ -3,7 +3,7 @@ use mathlib.Core.Path.{_≡_, refl, sym, ap, _∙_, subst}
 use mathlib.Core.Bool.{Bool, true, false, true≢false, cond}
 use mathlib.Core.Logic.{_⊎_, inl, inr, _↔_}
 use mathlib.Core.List.{List, _++_}
-use Prim.Native.Nat.{ℕ, zero, suc, _+_, _*_, _≤_, _<_}
+use Prim.Native.Nat.{ℕ, suc, _+_, _*_, _≤_, _<_}
 use native.Mathlib.Nat.{le-of-suc-le-suc}
 use native.Mathlib.Decide.{decLt}
 use native.Mathlib.Omega.{arith}
@@ -56,11 +56,6 @@ module _ (found : Word) where
       × ((w : Word) → distance w x ≤ suc (distance w found)))
       ⊎ (readAlone found ≡ faulty found)
 
-  closer : (i : ℕ) (w : Word) → distance w (flip i found) ≤ suc (distance w found)
-  closer i w =
-      subst (λ (n : ℕ). n ≤ suc (distance w found)) (ap weight (xor-comm (flip i found) w))
-      (subst (λ (n : ℕ). distance (flip i found) w ≤ suc n) (ap weight (xor-comm found w)) (distance-flip i found w))
-
   read-cases : Read-cases
   unfolding Read-cases readAlone
   read-cases = first (accepted found) refl
@@ -68,7 +63,7 @@ module _ (found : Word) where
       second : (i : ℕ) (t : Bool) → accepted found ≡ false → answerTo (syndrome found) ≡ Protected i → accepted (flip i found) ≡ t
           → Read-cases
       second i true e n s =
-          inl (flip i found, read-flip found i true e n s, holds (accepted (flip i found)) s, length-flip i found, closer i)
+          inl (flip i found, read-flip found i true e n s, holds (accepted (flip i found)) s, length-flip i found, λ w. distance-flip w found i)
       second i false e n s = inr (read-flip found i false e n s)
 
       answered : (a : Answer) → accepted found ≡ false → answerTo (syndrome found) ≡ a → Read-cases

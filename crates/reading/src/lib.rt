@@ -10,15 +10,17 @@ ghost use mathlib.Core.Path.{_≡_};
 ghost use mathlib.Core.Bool.{true, false};
 ghost use Rattle.gf2.specs.Check.{columnSum};
 ghost use Rattle.linecode.specs.Places.{places};
-ghost use Rattle.linecode.specs.Code.{protected, positions, accepted};
+ghost use Rattle.linecode.specs.Code.{protected, positions};
 ghost use Rattle.linecode.specs.Entry.{reading};
+ghost use Rattle.paper_order.specs.PaperOrder.{crcMatches};
 ghost use Rattle.line_table.specs.Table.{lineTable};
 ghost use Rattle.sweep.specs.Sums.{bothSums};
 
-// A line whose protected word is not divisible, with the sum of its positions: the corrector, then the CRC compared once more.
+// A line whose CRC does not match, with the sum of its positions: the corrector, then CRC and comparison once more. Where no protected
+// place is named, data and CRC stay as they are, and the second comparison would end as the first did.
 fn read_hurt(table: &[u64; 4096], line: [u8; 70], sum: u16) -> Reading
     requires table { ⌜ now table ≡ lineTable ⌝ }
-    requires hurt { ⌜ accepted (places line) ≡ false ⌝ }
+    requires hurt { ⌜ crcMatches (places line) ≡ false ⌝ }
     requires summed { ⌜ sum ≡ columnSum positions (protected (places line)) ⌝ }
     ensures { λ r. ⌜ r ≡ reading line ⌝ }
 {
@@ -42,7 +44,7 @@ fn read_hurt(table: &[u64; 4096], line: [u8; 70], sum: u16) -> Reading
     }
 }
 
-// A line whose sums are known, read alone: accepted, or else the corrector.
+// A line whose sums are known, read alone: its CRC matches, or else the corrector.
 pub fn read_summed(table: &[u64; 4096], line: [u8; 70], sums: u32) -> Reading
     requires { ⌜ (now table ≡ lineTable) × (sums ≡ bothSums (places line)) ⌝ }
     ensures { λ r. ⌜ r ≡ reading line ⌝ }

@@ -10,11 +10,11 @@ use borrow.Author.Tests.{eqb-false, eq-eqb, ne-eqb, leb-true, leb-false, ltb-tru
 use lib.Dec.{leb, ltb}
 use lib.ListN.{length, List·getD-eq-default}
 use Rattle.gf2.specs.Word.{Word, _⊕_, flip}
+use Rattle.gf2.proofs.Weight.{length-flip, distance-flip}
 use Rattle.scheme.specs.Layer.{Cell, Layer, readLine, ReadsAs, Promises}
 use Rattle.scheme.specs.Visit.{Group, State, cellAt, lineAt, isFaulty, without, sum}
 use Rattle.scheme.specs.Repair.{readAll, passesFrom}
 use Rattle.scheme.specs.Demand3.{_∈_, RisingGroups, wordAt, Written, damage, WithinBounds}
-use Rattle.scheme.proofs.Words.{length-flip, distance-flip}
 use Rattle.scheme.proofs.Sums.{sum-ext}
 use Rattle.scheme.proofs.Written.{others-give}
 use Rattle.scheme.proofs.Every.{Every, Tried, Rebuilt, every-passes}

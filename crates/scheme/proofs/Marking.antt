@@ -7,12 +7,12 @@ use native.Mathlib.Decide.{ℕ-discrete}
 use native.Mathlib.Omega.{arith}
 use lib.ListN.{length, getD, length-map, List·getD-map}
 use Rattle.gf2.specs.Word.{Word}
+use Rattle.gf2.proofs.Weight.{distance-self}
 use Rattle.scheme.specs.Layer.{Cell, Reading, Layer, readLine, Promises}
 use Rattle.scheme.specs.Visit.{Group, State, cellAt}
 use Rattle.scheme.specs.Repair.{readAll, repair, marksOf}
 use Rattle.scheme.specs.Marks.{RepairMarks, MarkTells, MarksTell, RepairMarksTell}
 use Rattle.scheme.specs.Demand3.{wordAt}
-use Rattle.scheme.proofs.Words.{distance-self}
 use Rattle.scheme.proofs.Every.{Every, every-passes}
 use Rattle.scheme.proofs.Stays.{first-reading-at, repair-stays, repair-length}
 

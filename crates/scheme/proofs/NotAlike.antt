@@ -10,11 +10,11 @@ use borrow.Author.Tests.{eqb-false, leb-true, leb-false, ltb-true, ltb-false, no
 use lib.Dec.{eqb, leb, ltb}
 use lib.ListN.{length, List·getD-eq-default}
 use Rattle.gf2.specs.Word.{Word, _⊕_, distance}
+use Rattle.gf2.proofs.Weight.{distance-self}
 use Rattle.scheme.specs.Layer.{Layer, Promises}
 use Rattle.scheme.specs.Visit.{Group, without}
 use Rattle.scheme.specs.Demand3.{_∈_, RisingGroups, wordAt, Written, Mendable}
 use Rattle.scheme.proofs.Lists.{selected}
-use Rattle.scheme.proofs.Words.{distance-self}
 use Rattle.scheme.proofs.Sums.{sum-ext}
 use Rattle.scheme.proofs.Written.{others-give}
 use Rattle.scheme.proofs.ExactReturn.{exact-return}

@@ -11,11 +11,12 @@ use lib.Dec.{eqb}
 use lib.ListN.{length, getD}
 use Rattle.gf2.specs.Word.{Word, _⊻_, _⊕_, weight, distance, flip}
 use Rattle.gf2.proofs.Xor.{xor-comm}
+use Rattle.gf2.proofs.Weight.{distance-self, length-flip}
 use Rattle.scheme.specs.Layer.{Layer, readLine, Promises}
 use Rattle.scheme.specs.Visit.{Group, State, cellAt, lineAt, isFaulty, faultyOf, without, sum, mismatch, triable, visit}
 use Rattle.scheme.specs.Demand3.{_∈_, Rising, RisingGroups, wordAt, Written, Paired, WithinBounds}
 use Rattle.scheme.proofs.Lists.{selected, selects, rising-select, at-least-two}
-use Rattle.scheme.proofs.Words.{weight-xor, place-xor, place-light, distance-self, distance-mend, length-flip, length-setPlaces, in-setPlaces}
+use Rattle.scheme.proofs.Words.{weight-xor, place-xor, place-light, distance-mend, length-setPlaces, in-setPlaces}
 use Rattle.scheme.proofs.Sums.{sum-xor, sum-light, sum-split}
 use Rattle.scheme.proofs.Faithful.{Right, whole, hurt, Faithful, right-line, accepted-mark}
 use Rattle.scheme.proofs.Mends.{tried-mended}

@@ -11,6 +11,7 @@ use lib.ListN.{length}
 use Rattle.gf2.specs.Word.{Word, _⊕_}
 use Rattle.gf2.proofs.Digits.{bitXor-assoc}
 use Rattle.gf2.proofs.Xor.{xor-nil}
+use Rattle.gf2.proofs.Weight.{length-flip}
 use Rattle.scheme.specs.Layer.{Cell, Layer, readLine, CorrectLine, parityAddress, Promises}
 use Rattle.scheme.specs.Visit.{Group, State, cellAt, lineAt, isFaulty, without, sum}
 use Rattle.scheme.specs.Repair.{readAll, repair}
@@ -18,7 +19,6 @@ use Rattle.scheme.specs.Parity.{readParity, unusable, asRead, parityAfte
 use Rattle.scheme.specs.Demand3.{_∈_, Rising, wordAt}
 use Rattle.scheme.specs.Sound.{AllPlaces, SoundParities, RepairSound}
 use Rattle.scheme.proofs.Lists.{selected, map-from}
-use Rattle.scheme.proofs.Words.{length-flip}
 use Rattle.scheme.proofs.Sums.{total-split}
 use Rattle.scheme.proofs.Written.{parity-correct}
 use Rattle.scheme.proofs.Grows.{none-counted}

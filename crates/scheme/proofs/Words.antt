@@ -4,7 +4,7 @@ use mathlib.Core.Logic.{inl, inr}
 use mathlib.Core.Bool.{true, false, false≢true}
 use mathlib.Core.List.{[], _∷_}
 use Prim.Native.Nat.{ℕ, zero, suc, _+_, _≤_}
-use native.Mathlib.Nat.{add-zero, add-suc, suc-add, suc-inj, le-refl}
+use native.Mathlib.Nat.{add-zero, add-suc, suc-add, suc-inj}
 use native.Mathlib.Omega.{arith}
 use lib.ListN.{length, getD}
 use Rattle.gf2.specs.Word.{Word, _⊻_, _⊕_, zeros, weight, distance, isZero, flip}
@@ -33,40 +33,12 @@ place-light (false ∷ x) zero h = refl
 place-light (false ∷ x) (suc p) h = place-light x p h
 place-light (true ∷ x) p h = let z : ⊥ = omega arith in absurd z
 
-weight-zeros : (n : ℕ) → weight (zeros n) ≡ 0
-weight-zeros zero = refl
-weight-zeros (suc n) = weight-zeros n
-
 isZero-zeros : (n : ℕ) → isZero (zeros n) ≡ true
 isZero-zeros zero = refl
 isZero-zeros (suc n) = isZero-zeros n
 
-pub distance-self : (x : Word) → distance x x ≡ 0
-distance-self x = ap weight (xor-self x) ∙ weight-zeros (length x)
-
 pub isZero-self : (x : Word) → isZero (x ⊕ x) ≡ true
 isZero-self x = ap isZero (xor-self x) ∙ isZero-zeros (length x)
-
-pub length-flip : (p : ℕ) (x : Word) → length (flip p x) ≡ length x
-length-flip p [] = refl
-length-flip zero (a ∷ x) = refl
-length-flip (suc p) (a ∷ x) = ap suc (length-flip p x)
-
--- a flip adds at most one damaged place
-pub distance-flip : (w x : Word) (p : ℕ) → distance w (flip p x) ≤ suc (distance w x)
-distance-flip w [] p = omega arith
-distance-flip [] (false ∷ x) zero = le-refl _
-distance-flip [] (true ∷ x) zero = omega arith
-distance-flip [] (false ∷ x) (suc p) = distance-flip [] x p
-distance-flip [] (true ∷ x) (suc p) = omega (arith, distance-flip [] x p)
-distance-flip (false ∷ w) (false ∷ x) zero = omega arith
-distance-flip (false ∷ w) (true ∷ x) zero = omega arith
-distance-flip (true ∷ w) (false ∷ x) zero = omega arith
-distance-flip (true ∷ w) (true ∷ x) zero = omega arith
-distance-flip (false ∷ w) (false ∷ x) (suc p) = distance-flip w x p
-distance-flip (false ∷ w) (true ∷ x) (suc p) = omega (arith, distance-flip w x p)
-distance-flip (true ∷ w) (false ∷ x) (suc p) = omega (arith, distance-flip w x p)
-distance-flip (true ∷ w) (true ∷ x) (suc p) = distance-flip w x p
 
 -- a flip at a damaged place takes one away
 pub distance-mend : (w x : Word) (p : ℕ) → length w ≡ length x → getD (w ⊕ x) p false ≡ true

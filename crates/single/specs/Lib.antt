@@ -1,2 +1,1 @@
-pub mod Corrector
 pub mod Paired

@@ -11,9 +11,9 @@ ghost use Rattle.gf2.specs.Word.{digits, number};
 ghost use Rattle.gf2.specs.Check.{crc, columnSum};
 ghost use Rattle.gf2.specs.Generator.{generator};
 ghost use Rattle.linecode.specs.Places.{bitsOf, places, lineOf};
-ghost use Rattle.linecode.specs.Code.{dataOf, positions, codeword, answerTo, isCorrect};
+ghost use Rattle.linecode.specs.Code.{dataOf, positions, codeword, syndrome as syndrome·, isCorrect};
 ghost use Rattle.linecode.specs.Entry.{reading};
-ghost use Rattle.single.specs.Corrector.{corrector};
+ghost use Rattle.paper_order.specs.PaperOrder.{corrector};
 
 // The data of a line, their CRC and their Hamming bits, which are given as numbers: bytes 64 to 69 are stored as these alone, so that
 // nothing that was just stored is read back.
@@ -40,18 +40,24 @@ pub fn rewrite(line: [u8; 70]) -> [u8; 70]
     with_checks(line, worked, wordsums::sum_with(line, worked))
 }
 
-// The corrector: the line with the protected place flipped that a syndrome names; where it names none, the line as it is.
+// The corrector: the line with the place turned over that its syndrome names; where it names none, the line as it is.
 fn corrected(line: [u8; 70], syndrome: u16) -> [u8; 70]
-    ensures { λ r. ⌜ places r ≡ corrector (answerTo syndrome) (places line) ⌝ }
+    requires { ⌜ syndrome ≡ syndrome· (places line) ⌝ }
+    ensures { λ r. ⌜ places r ≡ corrector (places line) ⌝ }
 {
-    let Answer::Protected(i) = hamming::answer_to(syndrome) else {
-        return line;
+    let answer = hamming::answer_to(syndrome);
+    let Answer::Protected(i) = answer else {
+        let Answer::Hamming(k) = answer else {
+            return line;
+        };
+        return place::flip_place(line, 543 + k);
     };
     place::flip_place(line, i)
 }
 
-// A line read alone: the CRC compared, and where it differs the corrector, then the CRC compared once more. The sum of positions serves an
-// accepted line as its Hamming bits, a hurt one for its syndrome; it stands before the test, where LLVM reads the line without a copy.
+// A line read alone, in the order of section III-C: the CRC from the data, compared with the stored one; where it differs the corrector,
+// then CRC and comparison once more. The sum of positions serves a line that matches as its Hamming bits, a hurt one for its syndrome; it
+// stands before the first comparison, where LLVM reads the line without a copy.
 pub fn read_line(line: [u8; 70]) -> Reading
     ensures { λ r. ⌜ r ≡ reading line ⌝ }
 {
@@ -65,7 +71,7 @@ pub fn read_line(line: [u8; 70]) -> Reading
         };
     }
     let turned = corrected(line, sum ^ hamming::stored(line));
-    if crc::agrees(turned) {
+    if crc::matches(turned) {
         return Reading {
             line: wordsums::append(turned),
             mark: 1,
@@ -81,7 +87,7 @@ pub fn read_line(line: [u8; 70]) -> Reading
 pub fn is_correct(line: [u8; 70]) -> bool
     ensures { λ r. ⌜ r ≡ isCorrect (places line) ⌝ }
 {
-    if crc::agrees(line) {
+    if crc::matches(line) {
         return wordsums::position_sum(line) == hamming::stored(line);
     }
     false

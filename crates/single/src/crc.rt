@@ -7,7 +7,8 @@ ghost use Rattle.gf2.specs.Word.{number};
 ghost use Rattle.gf2.specs.Check.{crc};
 ghost use Rattle.gf2.specs.Generator.{generator};
 ghost use Rattle.linecode.specs.Places.{places};
-ghost use Rattle.linecode.specs.Code.{dataOf, accepted};
+ghost use Rattle.linecode.specs.Code.{dataOf};
+ghost use Rattle.paper_order.specs.PaperOrder.{crcMatches};
 
 // The CRC of a line's data.
 pub fn of_data(line: [u8; 70]) -> u32
@@ -17,8 +18,8 @@ pub fn of_data(line: [u8; 70]) -> u32
 }
 
 // Whether the CRC worked out from the data is the stored one.
-pub fn agrees(line: [u8; 70]) -> bool
-    ensures { λ r. ⌜ r ≡ accepted (places line) ⌝ }
+pub fn matches(line: [u8; 70]) -> bool
+    ensures { λ r. ⌜ r ≡ crcMatches (places line) ⌝ }
 {
     of_data(line) == stored(line)
 }

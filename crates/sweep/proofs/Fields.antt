@@ -2,7 +2,7 @@
 use mathlib.Core.Path.{_≡_, refl, sym, ap, ap₂, _∙_, subst}
 use mathlib.Core.Bool.{false}
 use mathlib.Core.List.{List, [], _∷_, _++_, map, append-assoc}
-use Prim.Native.Nat.{ℕ, zero, suc, _+_, _*_, _/_, _%_, _^_, _≤_, _<_}
+use Prim.Native.Nat.{ℕ, suc, _+_, _*_, _/_, _%_, _^_, _≤_, _<_}
 use native.Mathlib.Omega.{arith}
 use lib.Bits.{bitAnd, bitXor}
 use lib.Dec.{T, eqb}
@@ -16,7 +16,7 @@ use Rattle.register.specs.Slices.{upFrom}
 use Rattle.register.proofs.Additive.{Additive, add-shr}
 use Rattle.register.proofs.TableRule.{alike, alike-sound, length-upFrom}
 use Rattle.linecode.specs.Places.{hammingPlaces, bitsOf, places}
-use Rattle.linecode.specs.Code.{positions, hammingColumns, protected, dataOf, storedCrc}
+use Rattle.linecode.specs.Code.{positions, hammingColumns, protected, storedCrc}
 use Rattle.linecode.proofs.Bytes.{Bytes, length-bitsOf, bitsOf-append}
 use Rattle.linecode.proofs.Line.{dataOf-line}
 use Rattle.linecode.proofs.Stores.{length-storedCrc, protected-parts, storedCrc-number}

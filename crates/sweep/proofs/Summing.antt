@@ -1,6 +1,6 @@
 -- The loops over a line's four blocks, and over the lines of a piece.
 use mathlib.Core.Path.{_≡_, refl, sym, ap, _∙_, subst}
-use mathlib.Core.List.{List, [], _∷_}
+use mathlib.Core.List.{List, _∷_}
 use Prim.Native.Nat.{ℕ, _+_, _-_, _*_, _≤_, _<_}
 use native.Mathlib.Nat.{not-suc-le-zero}
 use native.Mathlib.Omega.{arith}
@@ -9,7 +9,6 @@ use lib.ListN.{length, take, drop, getD, set, replicate, length-set, length-drop
 use lib.Seq.{getD-set-same, getD-set-other, length-take-le}
 use Rattle.linecode.specs.Places.{places}
 use Rattle.linecode.proofs.WordBytes.{readFrom, read-all}
-use Rattle.line_table.specs.Table.{lineTable}
 use Rattle.sweep.specs.Sums.{Summed, lineAt, bothSums}
 
 -- the first k blocks are summed

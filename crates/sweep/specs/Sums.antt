@@ -9,7 +9,8 @@ use Rattle.gf2.specs.Word.{Word}
 use Rattle.gf2.specs.Check.{columnSum}
 use Rattle.register.specs.Slices.{after}
 use Rattle.linecode.specs.Places.{bitsOf}
-use Rattle.linecode.specs.Code.{positions, protected, accepted}
+use Rattle.linecode.specs.Code.{positions, protected}
+use Rattle.paper_order.specs.PaperOrder.{crcMatches}
 use Rattle.line_table.specs.Table.{fields}
 
 -- n is the sum of the entries of some bytes: the register after them, and above it the sum of their fields
@@ -40,6 +41,6 @@ abbrev pub lineAt : List ℕ → ℕ → List ℕ
 lineAt buffer n = take 70 (drop (n * 70) buffer)
 
 -- both sums of a line in one number: the exclusive or of the positions of its set protected places, which are its Hamming bits, and
--- 65536 more where its protected word is not divisible
+-- 65536 more where the CRC of its data is not the stored one
 unfoldable pub bothSums : Word → ℕ
-bothSums w = columnSum positions (protected w) + cond (accepted w) 0 65536
+bothSums w = columnSum positions (protected w) + cond (crcMatches w) 0 65536

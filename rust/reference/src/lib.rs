@@ -1,5 +1,5 @@
 //! A second implementation of the caption store, written from its rules alone:
-//! document 01, with requests of document 02.
+//! document 01, with requests of document 02.
 //!
 //! It is made to be read beside that document, not to be fast: a line is a
 //! row of 553 truth values, a check is a long division, and repair follows
@@ -16,6 +16,7 @@
 //! | Request Q-4, one line wanted | [`lookup`] |
 //! | Request Q-5, wear of a whole tour | [`wear`] |
 //! | Request Q-6, what rebuilding alone would save | [`forecast`](mod@forecast) |
+//! | Request Q-7, reading alone in the order of document 000 | [`paper_order`] |
 //! | "Store file" | [`file`](mod@file) |
 //! | "Turned back, in checking order", as change it | [`answer`] |
 //! | The marks, as Q-1 changes them | [`mark`] |
@@ -55,6 +56,7 @@ pub mod forecast;
 pub mod hamming;
 pub mod line;
 pub mod lookup;
+pub mod paper_order;
 pub mod polynomial;
 pub mod random;
 pub mod rectangle;

@@ -1,19 +1,20 @@
--- `reading::read_hurt` meets its contract: each way out is one of the corrector's cases.
+-- `reading::read_hurt` meets its contract: each way out is one of the paper's order after the first comparison.
 use borrow.Author.Needs.{needs}
-use mathlib.Core.Path.{_≡_, sym, ap, ap₂, _∙_}
-use mathlib.Core.Bool.{Bool, true, false}
+use mathlib.Core.Path.{_≡_, sym, ap, ap₂, _∙_, subst}
 use mathlib.Core.List.{List}
-use Prim.Native.Nat.{ℕ}
+use Prim.Native.Nat.{ℕ, _≤_}
 use native.Mathlib.Omega.{arith}
 use lib.Bits.{bitXor}
-use lib.ListN.{length}
-use Rattle.linecode.specs.Places.{places}
-use Rattle.linecode.specs.Code.{accepted, syndrome, answerTo}
-use Rattle.linecode.specs.Reading.{afterFlip, readAlone}
+use Rattle.linecode.specs.Places.{protectedPlaces, places}
+use Rattle.linecode.specs.Code.{syndrome, answerTo, placeOf}
+use Rattle.linecode.specs.declared.hamming.Answer.{Answer}
 use Rattle.linecode.proofs.Bytes.{array-length}
-use Rattle.linecode.proofs.Line.{length-places, length-lineOf}
+use Rattle.linecode.proofs.Line.{length-places}
 use Rattle.linecode.proofs.Syndrome.{syndrome-parts}
-use Rattle.linecode.proofs.ReadAlone.{unnamed, second-look, mark-flipped, in-bytes}
+use Rattle.linecode.proofs.ReadAlone.{places-flipped}
+use Rattle.paper_order.specs.PaperOrder.{corrector}
+use Rattle.paper_order.proofs.Matching.{corrector-named, unnamed-past}
+use Rattle.paper_order.proofs.InOrder.{reads-turned, reads-faulty, reads-unturned}
 use Rattle.reading.proofs.Telling.{lower-half, below, above}
 use Rattle.reading.proofs.read_hurt.Statement.{statement}
 use Rattle.reading.proofs.read_hurt.Tie as tie
@@ -44,9 +45,10 @@ returns : tie.Need-returns
 returns c =
     let named = c .before .before in
     let start = named .before .before in
+    let l = start .args .line in
     ap (λ (x : List ℕ). record { line = x; mark = 4 }) (c .clear-spare .ensures)
-    ∙ in-bytes (start .args .line) _
-    (unnamed _ (named .answer-to .result) (c .before .match .keys2) (start .pre .1 .0) (answered named))
+    ∙ reads-unturned l (array-length 70 l _ (start .good .1 .0)) (start .pre .1 .0)
+    (subst (λ (a : Answer). protectedPlaces ≤ placeOf a) (sym (answered named)) (unnamed-past _ (c .before .match .keys2)))
 
 flip-place-requires : tie.Need-flip-place-requires
 flip-place-requires c κs = search needs
@@ -54,16 +56,16 @@ flip-place-requires c κs = search needs
 sums-of-requires : tie.Need-sums-of-requires
 sums-of-requires c κs = search needs
 
--- after the second look
-looked : (c : tie.After-sums-of) (t : Bool) → accepted (places (c .before .flip-place .result)) ≡ t
-    → let l = c .before .before .before .before .before .before .before .args .line in
-    readAlone (places l) ≡ afterFlip t (places (c .before .flip-place .result)) (places l)
-looked c t e =
-    let named = c .before .before .before in
+-- the corrector's line
+turned : (c : tie.After-flip-place)
+    → places (c .flip-place .result) ≡ corrector (places (c .before .before .before .before .before .before .args .line))
+unfolding placeOf
+turned c =
+    let named = c .before .before in
     let start = named .before .before .before .before in
     let l = start .args .line in
-    second-look l (c .before .flip-place .result) (named .i .given .0 .0) t (array-length 70 l _ (start .good .1 .0)) (start .pre .1 .0)
-    (answered (named .before .before) ∙ named .i .given .1) (c .before .flip-place .ensures) e
+    places-flipped l (c .flip-place .result) (named .i .given .0 .0) (array-length 70 l _ (start .good .1 .0)) (c .flip-place .ensures)
+    ∙ sym (corrector-named (places l) _ (answered (named .before .before) ∙ named .i .given .1))
 
 cast-with-bits : tie.Need-cast-with-bits
 cast-with-bits c = omega arith
@@ -75,12 +77,10 @@ returns-2 : tie.Need-returns-2
 returns-2 c =
     let again = c .before .before in
     let start = again .before .before .before .before .before .before .before in
-    let f = again .before .flip-place .result in
-    let accepted-now = below _ _ (again .sums-of .ensures) (c .before .if1 .taken) .0 in
-    let whole : length f ≡ 70 = ap length (again .before .flip-place .ensures) ∙ length-lineOf _ in
-    ap₂ (λ (x : List ℕ) (m : ℕ). record { line = x; mark = m }) (c .with-bits .ensures)
-    (sym (mark-flipped (places (start .args .line)) (places f) (length-places f whole) (start .pre .1 .0) accepted-now))
-    ∙ in-bytes _ _ (looked again true accepted-now)
+    let l = start .args .line in
+    ap (λ (x : List ℕ). record { line = x; mark = 1 }) (c .with-bits .ensures)
+    ∙ reads-turned l (array-length 70 l _ (start .good .1 .0)) _ (start .pre .1 .0) (turned (again .before))
+    (below _ _ (again .sums-of .ensures) (c .before .if1 .taken) .0)
 
 clear-spare-requires-2 : tie.Need-clear-spare-requires-2
 clear-spare-requires-2 c κs = search needs
@@ -88,8 +88,11 @@ clear-spare-requires-2 c κs = search needs
 returns-3 : tie.Need-returns-3
 returns-3 c =
     let again = c .before .before in
+    let start = again .before .before .before .before .before .before .before in
+    let l = start .args .line in
     ap (λ (x : List ℕ). record { line = x; mark = 4 }) (c .clear-spare2 .ensures)
-    ∙ in-bytes _ _ (looked again false (above _ _ (again .sums-of .ensures) (c .before .if1 .left) .0))
+    ∙ reads-faulty l (array-length 70 l _ (start .good .1 .0)) _ (start .pre .1 .0) (turned (again .before))
+    (above _ _ (again .sums-of .ensures) (c .before .if1 .left) .0)
 
 pub read-hurt-spec : {M : Type 1} → statement M
 read-hurt-spec =

@@ -1,12 +1,13 @@
--- `reading::read_summed` meets its contract: an accepted line is read here, any other as a hurt one.
-use mathlib.Core.Path.{ap₂, _∙_}
+-- `reading::read_summed` meets its contract: a line whose CRC matches is read here, any other as a hurt one.
+use mathlib.Core.Path.{ap, _∙_}
 use mathlib.Core.List.{List}
 use Prim.Native.Nat.{ℕ}
 use native.Mathlib.Omega.{arith}
 use Rattle.linecode.specs.Places.{places}
 use Rattle.linecode.specs.Code.{protected}
 use Rattle.linecode.proofs.Positions.{position-sum-lt}
-use Rattle.linecode.proofs.ReadAlone.{read-accepted, in-bytes}
+use Rattle.linecode.proofs.Bytes.{array-length}
+use Rattle.paper_order.proofs.InOrder.{reads-matched}
 use Rattle.reading.proofs.Telling.{below, above}
 use Rattle.reading.proofs.read_summed.Statement.{statement}
 use Rattle.reading.proofs.read_summed.Tie as tie
@@ -24,8 +25,10 @@ returns : tie.Need-returns
 returns c =
     let read = c .before in
     let start = read .before .before in
-    ap₂ (λ (x : List ℕ) (m : ℕ). record { line = x; mark = m }) (read .with-bits .ensures) (c .mark-of .ensures)
-    ∙ in-bytes (start .args .line) _ (read-accepted _ (below _ _ (start .pre .1) (read .before .if1 .taken) .0))
+    let l = start .args .line in
+    ap (λ (x : List ℕ). record { line = x; mark = c .mark-of .result }) (read .with-bits .ensures)
+    ∙ reads-matched l (array-length 70 l _ (start .good .1 .0)) (below _ _ (start .pre .1) (read .before .if1 .taken) .0) _
+    (c .mark-of .ensures)
 
 cast-read-hurt : tie.Need-cast-read-hurt
 cast-read-hurt c =

@@ -7,14 +7,15 @@ use Rattle.gf2.specs.Check.{columnSum}
 use Rattle.register.specs.Slices.{after}
 use lib.Dec.{eqb}
 use Rattle.linecode.specs.Places.{places}
-use Rattle.linecode.specs.Code.{positions, protected, accepted}
+use Rattle.linecode.specs.Code.{positions, protected}
 use Rattle.linecode.proofs.Positions.{position-sum-lt}
 use Rattle.linecode.proofs.CrcRegister.{crc-after}
-use Rattle.linecode.proofs.Codeword.{crc-agrees}
+use Rattle.paper_order.specs.PaperOrder.{crcMatches}
+use Rattle.paper_order.proofs.Matching.{matches-numbers}
 use Rattle.sweep.proofs.Fields.{positions-sum, block-length, data-blocks, stored-lt, stored-number, all-bytes}
 use borrow.Author.Needs.{needs}
 use borrow.Author.Tests.{eq-eqb, ne-eqb}
-use Rattle.sweep.proofs.BothSums.{accepted-sums, refused-sums}
+use Rattle.sweep.proofs.BothSums.{matched-sums, missed-sums}
 use Rattle.sweep.proofs.sums_in.Statement.{statement}
 use Rattle.sweep.proofs.sums_in.Tie as tie
 
@@ -91,10 +92,10 @@ cast-positions c = omega (arith, sum-lt _ _ (summed c))
 crc-of-requires : tie.Need-crc-of-requires
 crc-of-requires c κs = search needs
 
--- whether the CRC is the stored one
-agrees : (c : tie.After-crc-of) → let at-half = c .before .before .before in
-    eqb (c .crc-of .result) (at-half .half .result) ≡ accepted (places (at-half .before .before .before .before .before .before .before .args .line .now))
-agrees c =
+-- whether the CRC of the data is the stored one
+compared : (c : tie.After-crc-of) → let at-half = c .before .before .before in
+    eqb (c .crc-of .result) (at-half .half .result) ≡ crcMatches (places (at-half .before .before .before .before .before .before .before .args .line .now))
+compared c =
     let at-half = c .before .before .before in
     let at-blocks = at-half .before .before .before .before .before in
     let start = at-blocks .before .before in
@@ -106,17 +107,17 @@ agrees c =
     c .crc-of .ensures _ _ _ _ (block-length l whole bytes 16 (omega arith)) (block-length l whole bytes 32 (omega arith))
     (block-length l whole bytes 48 (omega arith)) (b 0 (omega arith)) (b 1 (omega arith)) (b 2 (omega arith)) (b 3 (omega arith))
     ∙ ap (after 0) (data-blocks l whole bytes) in
-    crc-agrees l (c .crc-of .result) (at-half .half .result) whole (crc-after l (c .crc-of .result) whole crc)
+    matches-numbers l (c .crc-of .result) (at-half .half .result) whole (crc-after l (c .crc-of .result) whole crc)
     (stored-number l whole bytes (at-half .half .result) (at-half .half .ensures))
 
 returns : tie.Need-returns
-returns c = accepted-sums _ _ (sym (agrees (c .before)) ∙ eq-eqb _ _ (c .if1 .taken)) (summed (c .before .before))
+returns c = matched-sums _ _ (sym (compared (c .before)) ∙ eq-eqb _ _ (c .if1 .taken)) (summed (c .before .before))
 
 add-result : tie.Need-add-result
 add-result c = omega (arith, sum-lt _ _ (summed (c .before .before)))
 
 returns-2 : tie.Need-returns-2
-returns-2 c = refused-sums _ _ (sym (agrees (c .before)) ∙ ne-eqb _ _ (c .if1 .left)) (summed (c .before .before))
+returns-2 c = missed-sums _ _ (sym (compared (c .before)) ∙ ne-eqb _ _ (c .if1 .left)) (summed (c .before .before))
 
 pub sums-in-spec : {M : Type 1} → statement M
 sums-in-spec =

@@ -1,5 +1,5 @@
 //! The library against document 01's samples, against the words of requests Q-1
-//! to Q-6 and against the second implementation. All tests are one binary, so
+//! to Q-7 and against the second implementation. All tests are one binary, so
 //! that it can be run once more under a memory checker.
 //!
 //! `SUDOKU_PERCENT` sets how many cases are drawn, in percent of the usual
@@ -13,6 +13,7 @@ mod forecast;
 mod forecast_type;
 mod lookup;
 mod marks;
+mod paper_order;
 mod parity;
 mod rebuilding;
 mod samples;
