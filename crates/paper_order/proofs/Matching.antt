@@ -1,7 +1,7 @@
 -- The comparison of the CRCs, and the corrector.
 use mathlib.Core.Path.{_≡_, refl, sym, ap, ap₂, _∙_, subst}
 use mathlib.Core.Bool.{Bool, true, false, true≢false, cond}
-use mathlib.Core.List.{List, [], _∷_}
+use mathlib.Core.List.{[], _∷_}
 use types.Run.{OneOf, miss}
 use denote.Enum.Declared.{tagOf}
 use Prim.Native.Nat.{ℕ, _≤_}
@@ -14,13 +14,13 @@ use Rattle.gf2.specs.Generator.{generator}
 use Rattle.gf2.proofs.Same.{same-equal, same-number}
 use Rattle.gf2.proofs.Crc.{length-crc}
 use Rattle.gf2.proofs.Weight.{length-flip, take-flip, flip-past}
-use Rattle.linecode.specs.Places.{protectedPlaces, linePlaces, places}
+use Rattle.linecode.specs.Places.{protectedPlaces, linePlaces}
 use Rattle.linecode.specs.Code.{protected, dataOf, storedCrc, accepted, withCrc, withHamming, syndrome, answerTo, placeOf}
 use Rattle.linecode.specs.Reading.{markOf}
 use Rattle.linecode.specs.declared.hamming.Answer.{Answer}
 use Rattle.linecode.specs.declared.hamming.Answer.the-variants.{None, Hamming, Protected}
 use Rattle.linecode.proofs.hamming.Answer.{the-type}
-use Rattle.linecode.proofs.Line.{protected-is, places-is, length-places}
+use Rattle.linecode.proofs.Line.{protected-is, places-is}
 use Rattle.linecode.proofs.Codeword.{length-protected, length-storedCrc, protected-rewritten, accepted-crc, accepted-written}
 use Rattle.paper_order.specs.PaperOrder.{crcMatches, corrector}
 
@@ -31,14 +31,12 @@ unfolding crcMatches
 matches-accepted w whole = sym (accepted-crc w whole)
 
 -- as numbers: the CRC worked out against the stored one
-pub matches-numbers : (l : List ℕ) (worked stored : ℕ) → length l ≡ 70 → worked ≡ number (crc generator (dataOf (places l)))
-    → stored ≡ number (storedCrc (places l)) → eqb worked stored ≡ crcMatches (places l)
+pub matches-numbers : (w : Word) (worked stored : ℕ) → length w ≡ linePlaces → worked ≡ number (crc generator (dataOf w))
+    → stored ≡ number (storedCrc w) → eqb worked stored ≡ crcMatches w
 unfolding crcMatches
-matches-numbers l worked stored e f g =
-    let w = places l in
+matches-numbers w worked stored whole f g =
     ap₂ eqb f g
-    ∙ same-number (crc generator (dataOf w)) (storedCrc w)
-    (length-crc generator (dataOf w) ∙ sym (length-storedCrc w (length-places l e)))
+    ∙ same-number (crc generator (dataOf w)) (storedCrc w) (length-crc generator (dataOf w) ∙ sym (length-storedCrc w whole))
 
 -- it asks for nothing but the protected places
 pub matches-protected : (w x : Word) → length w ≡ linePlaces → length x ≡ linePlaces → protected w ≡ protected x

@@ -71,7 +71,7 @@ pub fn read_line(line: [u8; 70]) -> Reading
         };
     }
     let turned = corrected(line, sum ^ hamming::stored(line));
-    if crc::matches(turned) {
+    if crc::of_data(turned) == linecode::crc::stored(turned) {
         return Reading {
             line: wordsums::append(turned),
             mark: 1,

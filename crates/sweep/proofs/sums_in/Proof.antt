@@ -9,6 +9,7 @@ use lib.Dec.{eqb}
 use Rattle.linecode.specs.Places.{places}
 use Rattle.linecode.specs.Code.{positions, protected}
 use Rattle.linecode.proofs.Positions.{position-sum-lt}
+use Rattle.linecode.proofs.Line.{length-places}
 use Rattle.linecode.proofs.CrcRegister.{crc-after}
 use Rattle.paper_order.specs.PaperOrder.{crcMatches}
 use Rattle.paper_order.proofs.Matching.{matches-numbers}
@@ -107,7 +108,7 @@ compared c =
     c .crc-of .ensures _ _ _ _ (block-length l whole bytes 16 (omega arith)) (block-length l whole bytes 32 (omega arith))
     (block-length l whole bytes 48 (omega arith)) (b 0 (omega arith)) (b 1 (omega arith)) (b 2 (omega arith)) (b 3 (omega arith))
     ∙ ap (after 0) (data-blocks l whole bytes) in
-    matches-numbers l (c .crc-of .result) (at-half .half .result) whole (crc-after l (c .crc-of .result) whole crc)
+    matches-numbers (places l) (c .crc-of .result) (at-half .half .result) (length-places l whole) (crc-after l (c .crc-of .result) whole crc)
     (stored-number l whole bytes (at-half .half .result) (at-half .half .ensures))
 
 returns : tie.Need-returns

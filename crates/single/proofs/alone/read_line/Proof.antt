@@ -6,14 +6,15 @@ use mathlib.Core.Bool.{false}
 use mathlib.Core.List.{List, _++_}
 use Prim.Native.Nat.{ℕ}
 use lib.Dec.{eqb}
-use lib.ListN.{take}
+use lib.ListN.{length, take}
 use Rattle.gf2.specs.Word.{digits}
 use Rattle.gf2.specs.Check.{columnSum}
 use Rattle.linecode.specs.Places.{bitsOf, places}
 use Rattle.linecode.specs.Code.{positions}
 use Rattle.linecode.proofs.Bytes.{array-length}
+use Rattle.linecode.proofs.Line.{length-places}
 use Rattle.paper_order.specs.PaperOrder.{crcMatches}
-use Rattle.paper_order.proofs.Matching.{matches-numbers}
+use Rattle.paper_order.proofs.Matching.{matches-numbers, length-corrector}
 use Rattle.paper_order.proofs.InOrder.{reads-turned, reads-faulty}
 use Rattle.single.proofs.Looks.{reads-codeword, protected-sum, held-syndrome}
 use Rattle.single.proofs.alone.read_line.Statement.{statement}
@@ -34,7 +35,7 @@ compared : (c : tie.After-sum-with)
 compared c =
     let worked = c .before .before in
     let l = worked .before .args .line in
-    matches-numbers l _ _ (array-length 70 l _ (worked .before .good .0)) (worked .of-data .ensures) (c .before .stored .ensures)
+    matches-numbers _ _ _ (length-places l (array-length 70 l _ (worked .before .good .0))) (worked .of-data .ensures) (c .before .stored .ensures)
 
 with-checks-requires : tie.Need-with-checks-requires
 with-checks-requires c κs =
@@ -76,27 +77,40 @@ corrected-requires c κs =
     held-syndrome l (array-length 70 l _ (start .good .0)) (held .stored .result) (held .stored .ensures) (summed .sum-with .result)
     (c .stored2 .result) (summed .sum-with .ensures) (c .stored2 .ensures)
 
-matches-requires : tie.Need-matches-requires
-matches-requires c κs = search needs
+of-data-requires-2 : tie.Need-of-data-requires-2
+of-data-requires-2 c κs = search needs
 
+stored-requires-3 : tie.Need-stored-requires-3
+stored-requires-3 c κs = search needs
+
+-- CRC and comparison once more
 missed : (c : tie.After-corrected) → crcMatches (places (c .before .before .before .before .before .before .args .line)) ≡ false
 missed c =
     let left = c .before .before in
     sym (compared (left .before)) ∙ ne-eqb _ _ (left .if1 .left)
 
+compared-again : (c : tie.After-stored3)
+    → eqb (c .before .of-data2 .result) (c .stored3 .result) ≡ crcMatches (places (c .before .before .corrected .result))
+compared-again c =
+    let turn = c .before .before in
+    let start = turn .before .before .before .before .before .before in
+    let l = start .args .line in
+    matches-numbers _ _ _
+    (ap length (turn .corrected .ensures) ∙ length-corrector (places l) (length-places l (array-length 70 l _ (start .good .0))))
+    (c .before .of-data2 .ensures) (c .stored3 .ensures)
+
 append-requires : tie.Need-append-requires
 append-requires c κs = search needs
 
--- CRC and comparison once more
 returns-2 : tie.Need-returns-2
 returns-2 c =
     let again = c .before .before in
-    let turn = again .before in
+    let turn = again .before .before in
     let start = turn .before .before .before .before .before .before in
     let l = start .args .line in
     ap (λ (x : List ℕ). record { line = x; mark = 1 }) (c .append .ensures)
     ∙ reads-turned l (array-length 70 l _ (start .good .0)) _ (missed turn) (turn .corrected .ensures)
-    (sym (again .matches .ensures) ∙ c .before .if2 .taken)
+    (sym (compared-again again) ∙ eq-eqb _ _ (c .before .if2 .taken))
 
 clear-spare-requires : tie.Need-clear-spare-requires
 clear-spare-requires c κs = search needs
@@ -104,12 +118,12 @@ clear-spare-requires c κs = search needs
 returns-3 : tie.Need-returns-3
 returns-3 c =
     let again = c .before .before in
-    let turn = again .before in
+    let turn = again .before .before in
     let start = turn .before .before .before .before .before .before in
     let l = start .args .line in
     ap (λ (x : List ℕ). record { line = x; mark = 4 }) (c .clear-spare .ensures)
     ∙ reads-faulty l (array-length 70 l _ (start .good .0)) _ (missed turn) (turn .corrected .ensures)
-    (sym (again .matches .ensures) ∙ c .before .if2 .left)
+    (sym (compared-again again) ∙ ne-eqb _ _ (c .before .if2 .left))
 
 pub read-line-spec : {M : Type 1} → statement M
 read-line-spec =
@@ -123,7 +137,8 @@ read-line-spec =
     returns
     stored-requires-2
     corrected-requires
-    matches-requires
+    of-data-requires-2
+    stored-requires-3
     append-requires
     returns-2
     clear-spare-requires

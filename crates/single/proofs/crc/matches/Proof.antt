@@ -1,6 +1,7 @@
 -- `single::crc::matches` meets its contract.
 use borrow.Author.Needs.{needs}
 use Rattle.linecode.proofs.Bytes.{array-length}
+use Rattle.linecode.proofs.Line.{length-places}
 use Rattle.paper_order.proofs.Matching.{matches-numbers}
 use Rattle.single.proofs.crc.matches.Statement.{statement}
 use Rattle.single.proofs.crc.matches.Tie as tie
@@ -15,7 +16,7 @@ returns : tie.Need-returns
 returns c =
     let start = c .before .before in
     let l = start .args .line in
-    matches-numbers l _ _ (array-length 70 l _ (start .good .0)) (c .before .of-data .ensures) (c .stored .ensures)
+    matches-numbers _ _ _ (length-places l (array-length 70 l _ (start .good .0))) (c .before .of-data .ensures) (c .stored .ensures)
 
 pub matches-spec : {M : Type 1} → statement M
 matches-spec = tie.close (tie.spec of-data-requires stored-requires returns)
