@@ -1,18 +1,17 @@
 -- Numbers and the words of their binary digits, lowest first.
-use mathlib.Core.Path.{_≡_, refl, sym, ap, ap₂, _∙_, subst}
-use mathlib.Core.Bool.{Bool, true, false, not}
-use mathlib.Core.List.{List, [], _∷_, _++_}
-use Prim.Native.Nat.{ℕ, zero, suc, _+_, _*_, _/_, _%_, _^_, _≤_, _<_}
-use native.Mathlib.Nat.{le-of-suc-le-suc, not-suc-le-zero, zero-add, suc-add, mod-lt, pow-suc, mul-comm, mod-eq-of-lt, add-zero}
+use mathlib.Core.Path.{_≡_, refl, sym, ap, ap₂, _∙_}
+use mathlib.Core.Bool.{Bool, true, false}
+use mathlib.Core.List.{[], _∷_, _++_}
+use Prim.Native.Nat.{ℕ, zero, suc, _+_, _*_, _/_, _%_, _^_, _<_}
+use native.Mathlib.Nat.{le-of-suc-le-suc, not-suc-le-zero, zero-add, suc-add, pow-suc, mod-eq-of-lt}
 use native.Mathlib.Omega.{arith}
 use lib.Arith.{bin-ind, mod-mul}
-use lib.Bits.{bitXor, differ, xor-step, xor-shr}
+use lib.Bits.{bitXor, differ, xor-step, xor-shr, xor-add-and, and-le-l, and-le-r}
 use lib.Dec.{eqb}
 use lib.ListN.{length, getD}
 use lib.Pow.{pow-pos, shr-shr}
 use Rattle.gf2.specs.Word.{Word, _⊻_, _⊕_, zeros, digits, number}
 use Rattle.gf2.specs.Check.{bit}
-use Rattle.gf2.proofs.Xor.{bit-zero-l}
 
 pub length-digits : (k n : ℕ) → length (digits k n) ≡ k
 length-digits zero n = refl
@@ -61,6 +60,10 @@ differ-assoc (suc zero) (suc zero) (suc zero) hx hy hz = refl
 differ-assoc (suc zero) (suc zero) (suc (suc z)) hx hy hz = let e : ⊥ = omega arith in absurd e
 differ-assoc (suc zero) (suc (suc y)) z hx hy hz = let e : ⊥ = omega arith in absurd e
 differ-assoc (suc (suc x)) y z hx hy hz = let e : ⊥ = omega arith in absurd e
+
+-- numbers whose exclusive or is 0 are equal
+pub bitXor-zero : (a b : ℕ) → bitXor a b ≡ 0 → a ≡ b
+bitXor-zero a b e = omega (arith, xor-add-and a b, and-le-l a b, and-le-r a b)
 
 pub bitXor-assoc : (a b c : ℕ) → bitXor (bitXor a b) c ≡ bitXor a (bitXor b c)
 bitXor-assoc =

@@ -10,7 +10,7 @@ use lib.ListN.{length, take, drop}
 use Rattle.gf2.specs.Word.{Word, _⊕_, zeros, weight, distance, flip}
 use Rattle.gf2.proofs.Xor.{xor-self, take-xor}
 
-pub weight-zeros : (n : ℕ) → weight (zeros n) ≡ 0
+weight-zeros : (n : ℕ) → weight (zeros n) ≡ 0
 weight-zeros zero = refl
 weight-zeros (suc n) = weight-zeros n
 

@@ -7,7 +7,7 @@ use Rattle.linecode.specs.Places.{protectedPlaces}
 use Rattle.linecode.specs.Code.{positions, columns, indexOf, answerTo, syndromeOf, placeOf}
 use Rattle.linecode.specs.declared.hamming.Answer.{Answer}
 use Rattle.linecode.specs.declared.hamming.Answer.the-variants.{None, Hamming, Protected}
-use Rattle.linecode.proofs.Syndrome.{by-case, column-held, column-protected, column-hamming}
+use Rattle.linecode.proofs.Syndrome.{by-case, apart, column-held, column-protected, column-hamming}
 
 -- a syndrome from 1 to 553 is some place's number
 some-place : (s : ℕ) → 1 ≤ s → s ≤ 553 → indexOf s columns ≡ 553 → ⊥
@@ -22,9 +22,6 @@ numbered s h =
     none : (s : ℕ) → s ≤ 553 → indexOf s columns ≡ 553 → 0 ≡ s
     none zero h e = refl
     none (suc s) h e = absurd (some-place (suc s) (omega arith) h e)
-
-apart : _≡_ {A = ℕ} 0 1 → ⊥
-apart z = omega arith
 
 -- a protected place is answered to its own position alone
 pub protected-position : (s i : ℕ) → answerTo s ≡ Protected i → (i < 543) × (getD positions i 0 ≡ s)

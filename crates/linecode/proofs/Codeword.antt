@@ -2,19 +2,21 @@
 use mathlib.Core.Path.{_≡_, refl, sym, ap, ap₂, _∙_, subst}
 use mathlib.Core.Bool.{Bool, true, false, _&&_}
 use mathlib.Core.List.{List, [], _∷_, _++_, append-assoc}
-use Prim.Native.Nat.{ℕ, _+_, _-_, _/_, _%_, _^_, _<_}
+use Prim.Native.Nat.{ℕ, _+_, _-_, _/_, _%_, _^_, _≤_, _<_}
 use native.Mathlib.Omega.{arith}
 use lib.Dec.{T, eqb}
 use lib.ListN.{length, take, length-append, length-drop, take-append-drop}
 use lib.Seq.{length-take-le, take-take, take-at, take-append-add, sets}
-use Rattle.gf2.specs.Word.{Word, digits, number, same}
+use Rattle.gf2.specs.Word.{Word, digits, number, flip, same}
 use Rattle.gf2.specs.Check.{divisible, crc, columnSum}
 use Rattle.gf2.specs.Generator.{generator}
 use Rattle.gf2.proofs.Digits.{length-digits, number-small, number-lt, digits-number}
 use Rattle.gf2.proofs.Same.{same-refl, same-equal, same-append, same-comm, same-number}
 use Rattle.gf2.proofs.Crc.{length-crc, divisible-crc}
+use Rattle.gf2.proofs.Weight.{take-flip, flip-past}
 use Rattle.linecode.specs.Places.{dataPlaces, protectedPlaces, linePlaces, bitsOf, places, lineOf}
-use Rattle.linecode.specs.Code.{protected, dataOf, storedCrc, storedHamming, accepted, positions, hamming, withCrc, withHamming, codeword, isCorrect}
+use Rattle.linecode.specs.Code.{protected, dataOf, storedCrc, storedHamming, accepted, positions, hamming, withCrc, withHamming}
+use Rattle.linecode.specs.Code.{codeword, isCorrect}
 use Rattle.linecode.proofs.Bytes.{Bytes}
 use Rattle.linecode.proofs.Line.{protected-is, data-is, places-is, dataOf-line, length-places}
 use Rattle.linecode.proofs.Positions.{length-positions, hamming-digits, withHamming-digits, position-sum-lt}
@@ -59,6 +61,11 @@ module _ (w : Word) (whole : length w ≡ linePlaces) where
   protected-parts =
       sym (take-append-drop dataPlaces (protected w))
       ∙ ap (λ (d : Word). d ++ storedCrc w) (take-take dataPlaces protectedPlaces w (omega (arith, data-is, protected-is)))
+
+  -- a flip past the protected places leaves them
+  pub protected-flip : (i : ℕ) → protectedPlaces ≤ i → protected (flip i w) ≡ protected w
+  unfolding protected
+  protected-flip i h = take-flip protectedPlaces i w ∙ flip-past i (protected w) (omega (arith, length-protected))
 
   pub line-parts : w ≡ protected w ++ storedHamming w
   unfolding protected storedHamming

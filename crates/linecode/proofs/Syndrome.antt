@@ -16,7 +16,7 @@ use lib.Seq.{length-take-le, getD-append-add}
 use Rattle.gf2.specs.Word.{Word, flip, number}
 use Rattle.gf2.specs.Check.{columnSum}
 use Rattle.gf2.proofs.Hamming.{columnSum-append, columnSum-flip}
-use Rattle.linecode.specs.Places.{protectedPlaces, hammingPlaces, linePlaces, places}
+use Rattle.linecode.specs.Places.{protectedPlaces, hammingPlaces, linePlaces}
 use Rattle.linecode.specs.Code.{protected, storedHamming, positions, hammingColumns, columns, upFrom, syndrome}
 use Rattle.linecode.specs.Code.{indexOf, naming, answerTo}
 use Rattle.linecode.specs.declared.hamming.Answer.{Answer}
@@ -183,6 +183,10 @@ pub none-above : (s : ℕ) → 553 < s → answerTo s ≡ None
 unfolding answerTo columns positions hammingColumns hammingPlaces
 none-above s h = ap naming (absent s 554 columns tt h) ∙ naming-none
 
+-- the tags of two cases of the enum differ
+pub apart : _≡_ {A = ℕ} 0 1 → ⊥
+apart z = omega arith
+
 pub none-exactly : (s : ℕ) → answerTo s ≡ None → (s ≡ 0) ⊎ (553 < s)
 none-exactly s =
     by-case s (λ (a : Answer). a ≡ None → (s ≡ 0) ⊎ (553 < s))
@@ -190,9 +194,6 @@ none-exactly s =
     (λ (k : ℕ) (h : k < 10) (q : 2 ^ k ≡ s) (e : Hamming k ≡ None). let z : _≡_ {A = ℕ} 0 1 = cc in absurd (apart z))
     (λ (q : indexOf s columns ≡ 553) (e : None ≡ None). go s q (decLe s 553))
   where
-    apart : _≡_ {A = ℕ} 0 1 → ⊥
-    apart z = omega arith
-
     go : (s : ℕ) → indexOf s columns ≡ 553 → Dec (s ≤ 553) → (s ≡ 0) ⊎ (553 < s)
     go zero q d = inl refl
     go (suc s) q (yes h) = let z : ⊥ = omega (arith, column-held (suc s) (omega arith) h) in absurd z

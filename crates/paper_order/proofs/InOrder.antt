@@ -3,7 +3,6 @@ use mathlib.Core.Path.{_≡_, refl, sym, ap, _∙_}
 use mathlib.Core.Bool.{Bool, true, false, cond}
 use mathlib.Core.List.{List}
 use Prim.Native.Nat.{ℕ, _≤_}
-use native.Mathlib.Omega.{arith}
 use lib.ListN.{length}
 use Rattle.gf2.specs.Word.{Word, flip}
 use Rattle.gf2.proofs.Weight.{length-flip}
@@ -14,43 +13,44 @@ use Rattle.linecode.specs.Entry.{reading}
 use Rattle.linecode.specs.declared.alone.Reading.{Reading}
 use Rattle.linecode.specs.declared.hamming.Answer.{Answer}
 use Rattle.linecode.specs.declared.hamming.Answer.the-variants.{None, Hamming, Protected}
-use Rattle.linecode.proofs.Line.{protected-is, places-is, bytes-is, length-places}
+use Rattle.linecode.proofs.Line.{bytes-is, length-places}
 use Rattle.linecode.proofs.ReadAlone.{in-bytes}
-use Rattle.paper_order.specs.PaperOrder.{crcMatches, corrector, deemedRight, comparedAgain, readInOrder, readingInOrder}
-use Rattle.paper_order.proofs.Matching.{matches-accepted, length-corrector, corrector-named, matches-unturned, mark-turned}
+use Rattle.paper_order.specs.PaperOrder.{crcMatches, corrector, deemedNonFaulty, comparedAgain, readInOrder, readingInOrder}
+use Rattle.paper_order.proofs.Matching.{matches-accepted, length-corrector, corrector-named, mark-corrected}
+use Rattle.paper_order.proofs.Matching.{none-past, hamming-past, matches-past}
 
 -- ---- the steps
 module _ (w : Word) where
   -- the first comparison
-  order-matched : crcMatches w ≡ true → readInOrder w ≡ deemedRight w w
+  order-matched : crcMatches w ≡ true → readInOrder w ≡ deemedNonFaulty w w
   unfolding readInOrder
-  order-matched e = ap (λ (b : Bool). cond b (deemedRight w w) (comparedAgain w (corrector w))) e
+  order-matched e = ap (λ (b : Bool). cond b (deemedNonFaulty w w) (comparedAgain w (corrector w))) e
 
   -- the corrector, and the second comparison
-  pub order-again : (turned : Word) (t : Bool) → crcMatches w ≡ false → turned ≡ corrector w → crcMatches turned ≡ t
-      → readInOrder w ≡ cond t (deemedRight w turned) (faulty w)
+  pub order-again : (x : Word) (t : Bool) → crcMatches w ≡ false → x ≡ corrector w → crcMatches x ≡ t
+      → readInOrder w ≡ cond t (deemedNonFaulty w x) (faulty w)
   unfolding readInOrder
-  order-again turned t e c f =
-      ap (λ (b : Bool). cond b (deemedRight w w) (comparedAgain w (corrector w))) e
+  order-again x t e c f =
+      ap (λ (b : Bool). cond b (deemedNonFaulty w w) (comparedAgain w (corrector w))) e
       ∙ ap (comparedAgain w) (sym c)
-      ∙ ap (λ (b : Bool). cond b (deemedRight w turned) (faulty w)) f
+      ∙ ap (λ (b : Bool). cond b (deemedNonFaulty w x) (faulty w)) f
 
 -- ---- the reading as it stands
 module _ (w : Word) (whole : length w ≡ linePlaces) where
   -- where no protected place is named, the second comparison fails as the first did
-  order-unturned : crcMatches w ≡ false → protectedPlaces ≤ placeOf (answerTo (syndrome w)) → readInOrder w ≡ faulty w
-  order-unturned e h = order-again w (corrector w) false e refl (matches-unturned w whole h ∙ e)
+  order-past : crcMatches w ≡ false → (a : Answer) → answerTo (syndrome w) ≡ a → protectedPlaces ≤ placeOf a → readInOrder w ≡ faulty w
+  order-past e a q h = order-again w (corrector w) false e refl (matches-past w whole a q h ∙ e)
 
   missed : crcMatches w ≡ false → (a : Answer) → answerTo (syndrome w) ≡ a → readInOrder w ≡ corrected a w
   unfolding placeOf
-  missed e None q = order-unturned e (omega (arith, ap placeOf q, protected-is, places-is))
-  missed e (Hamming k) q = order-unturned e (omega (arith, ap placeOf q))
+  missed e None q = order-past e None q none-past
+  missed e (Hamming k) q = order-past e (Hamming k) q (hamming-past k)
   missed e (Protected i) q =
       order-again w (flip i w) (accepted (flip i w)) e (sym (corrector-named w (Protected i) q))
       (matches-accepted (flip i w) (length-flip i w ∙ whole))
       ∙ second (accepted (flip i w))
     where
-      second : (b : Bool) → cond b (deemedRight w (flip i w)) (faulty w) ≡ afterFlip b (flip i w) w
+      second : (b : Bool) → cond b (deemedNonFaulty w (flip i w)) (faulty w) ≡ afterFlip b (flip i w) w
       second true = refl
       second false = refl
 
@@ -83,20 +83,19 @@ module _ (l : List ℕ) (e : length l ≡ 70) where
   reads-matched f m g = ap (given (withHamming (protected w))) g ∙ ordered _ (order-matched w f)
 
   -- it does after the corrector: mark 1
-  pub reads-turned : (turned : Word) → crcMatches w ≡ false → turned ≡ corrector w → crcMatches turned ≡ true
-      → given (withHamming (protected turned)) 1 ≡ reading l
-  reads-turned turned f c g =
-      ap (given (withHamming (protected turned)))
-      (sym (mark-turned w turned whole (ap length c ∙ length-corrector w whole) f g))
-      ∙ ordered _ (order-again w turned true f c g)
+  pub reads-corrected : (x : Word) → crcMatches w ≡ false → x ≡ corrector w → crcMatches x ≡ true
+      → given (withHamming (protected x)) 1 ≡ reading l
+  reads-corrected x f c g =
+      ap (given (withHamming (protected x))) (sym (mark-corrected w x whole (ap length c ∙ length-corrector w whole) f g))
+      ∙ ordered _ (order-again w x true f c g)
 
   -- it does not: faulty, as found
-  pub reads-faulty : (turned : Word) → crcMatches w ≡ false → turned ≡ corrector w → crcMatches turned ≡ false → given w 4 ≡ reading l
-  reads-faulty turned f c g = ordered _ (order-again w turned false f c g)
+  pub reads-faulty : (x : Word) → crcMatches w ≡ false → x ≡ corrector w → crcMatches x ≡ false → given w 4 ≡ reading l
+  reads-faulty x f c g = ordered _ (order-again w x false f c g)
 
   -- nor where no protected place is named
-  pub reads-unturned : crcMatches w ≡ false → protectedPlaces ≤ placeOf (answerTo (syndrome w)) → given w 4 ≡ reading l
-  reads-unturned f h = ordered _ (order-unturned w whole f h)
+  pub reads-past : crcMatches w ≡ false → (a : Answer) → answerTo (syndrome w) ≡ a → protectedPlaces ≤ placeOf a → given w 4 ≡ reading l
+  reads-past f a q h = ordered _ (order-past w whole f a q h)
 
 pub same-bytes : (l : List ℕ) → length l ≡ lineBytes → readingInOrder l ≡ reading l
 unfolding readingInOrder

@@ -1,5 +1,4 @@
--- The laws of the comparison and of the corrector; that the paper's order gives the reading as it stands; the paper's two claims.
+-- The laws of the comparison and of the corrector; that the paper's order gives the reading as it stands.
 pub mod Matching
 pub mod InOrder
-pub mod Claims
 pub mod Promises

@@ -13,15 +13,15 @@ use Rattle.gf2.specs.Check.{divisible, crc}
 use Rattle.gf2.specs.Generator.{generator}
 use Rattle.gf2.proofs.Same.{same-equal, same-number}
 use Rattle.gf2.proofs.Crc.{length-crc}
-use Rattle.gf2.proofs.Weight.{length-flip, take-flip, flip-past}
+use Rattle.gf2.proofs.Weight.{length-flip, flip-past}
 use Rattle.linecode.specs.Places.{protectedPlaces, linePlaces}
-use Rattle.linecode.specs.Code.{protected, dataOf, storedCrc, accepted, withCrc, withHamming, syndrome, answerTo, placeOf}
+use Rattle.linecode.specs.Code.{protected, dataOf, storedCrc, accepted, withHamming, syndrome, answerTo, placeOf}
 use Rattle.linecode.specs.Reading.{markOf}
 use Rattle.linecode.specs.declared.hamming.Answer.{Answer}
 use Rattle.linecode.specs.declared.hamming.Answer.the-variants.{None, Hamming, Protected}
 use Rattle.linecode.proofs.hamming.Answer.{the-type}
 use Rattle.linecode.proofs.Line.{protected-is, places-is}
-use Rattle.linecode.proofs.Codeword.{length-protected, length-storedCrc, protected-rewritten, accepted-crc, accepted-written}
+use Rattle.linecode.proofs.Codeword.{length-storedCrc, protected-flip, protected-rewritten, accepted-crc}
 use Rattle.paper_order.specs.PaperOrder.{crcMatches, corrector}
 
 -- ---- the comparison
@@ -39,26 +39,26 @@ matches-numbers w worked stored whole f g =
     ∙ same-number (crc generator (dataOf w)) (storedCrc w) (length-crc generator (dataOf w) ∙ sym (length-storedCrc w whole))
 
 -- it asks for nothing but the protected places
-pub matches-protected : (w x : Word) → length w ≡ linePlaces → length x ≡ linePlaces → protected w ≡ protected x
+matches-protected : (w x : Word) → length w ≡ linePlaces → length x ≡ linePlaces → protected w ≡ protected x
     → crcMatches w ≡ crcMatches x
 unfolding accepted
 matches-protected w x e f p = matches-accepted w e ∙ ap (divisible generator) p ∙ sym (matches-accepted x f)
 
--- data and CRC that match are what writing the data gives
-pub matched-written : (w : Word) → length w ≡ linePlaces → crcMatches w ≡ true → protected w ≡ withCrc (dataOf w)
-matched-written w whole e = accepted-written w whole (subst T (sym (sym (matches-accepted w whole) ∙ e)) tt)
+-- a line that matches is accepted
+pub matches-accepts : (w : Word) → length w ≡ linePlaces → crcMatches w ≡ true → T (accepted w)
+matches-accepts w whole e = subst T (sym (sym (matches-accepted w whole) ∙ e)) tt
 
 -- ---- the corrector
 pub length-corrector : (w : Word) → length w ≡ linePlaces → length (corrector w) ≡ linePlaces
 unfolding corrector
 length-corrector w whole = length-flip (placeOf (answerTo (syndrome w))) w ∙ whole
 
--- the place that is named is turned over
+-- the place that is named is flipped
 pub corrector-named : (w : Word) (a : Answer) → answerTo (syndrome w) ≡ a → corrector w ≡ flip (placeOf a) w
 unfolding corrector
 corrector-named w a e = ap (λ (x : Answer). flip (placeOf x) w) e
 
--- where none is, neither the enum's tag 1 nor its tag 2, nothing is turned
+-- where none is, neither the enum's tag 1 nor its tag 2, nothing is
 pub corrector-none : (w : Word) → length w ≡ linePlaces → (a : Answer) → answerTo (syndrome w) ≡ a
     → OneOf (0 ∷ 1 ∷ []) (tagOf the-type a) → OneOf (0 ∷ 2 ∷ []) (tagOf the-type a) → corrector w ≡ w
 unfolding placeOf
@@ -66,28 +66,32 @@ corrector-none w whole None e h k = corrector-named w None e ∙ flip-past lineP
 corrector-none w whole (Hamming i) e h k = absurd (miss (0 ∷ 2 ∷ []) 1 tt k)
 corrector-none w whole (Protected i) e h k = absurd (miss (0 ∷ 1 ∷ []) 2 tt h)
 
--- where no protected place is, the enum's tags 0 and 1, the place lies past the protected ones
-pub unnamed-past : (a : Answer) → OneOf (0 ∷ 1 ∷ []) (tagOf the-type a) → protectedPlaces ≤ placeOf a
+-- none and a Hamming bit lie past the protected places
+pub none-past : protectedPlaces ≤ placeOf None
 unfolding placeOf
-unnamed-past None k = omega (arith, protected-is, places-is)
-unnamed-past (Hamming i) k = omega arith
+none-past = omega (arith, protected-is, places-is)
+
+pub hamming-past : (k : ℕ) → protectedPlaces ≤ placeOf (Hamming k)
+unfolding placeOf
+hamming-past k = omega arith
+
+-- the enum's tags 0 and 1
+pub unnamed-past : (a : Answer) → OneOf (0 ∷ 1 ∷ []) (tagOf the-type a) → protectedPlaces ≤ placeOf a
+unnamed-past None k = none-past
+unnamed-past (Hamming i) k = hamming-past i
 unnamed-past (Protected i) k = absurd (miss (0 ∷ 1 ∷ []) 2 tt k)
 
--- and the second comparison ends as the first did
-pub matches-unturned : (w : Word) → length w ≡ linePlaces → protectedPlaces ≤ placeOf (answerTo (syndrome w))
+-- the second comparison then ends as the first did
+pub matches-past : (w : Word) → length w ≡ linePlaces → (a : Answer) → answerTo (syndrome w) ≡ a → protectedPlaces ≤ placeOf a
     → crcMatches (corrector w) ≡ crcMatches w
-unfolding corrector protected
-matches-unturned w whole h =
+matches-past w whole a e h =
     matches-protected (corrector w) w (length-corrector w whole) whole
-    (take-flip protectedPlaces i w ∙ flip-past i (protected w) (omega (arith, length-protected w whole)))
-  where
-    i : ℕ
-    i = placeOf (answerTo (syndrome w))
+    (ap protected (corrector-named w a e) ∙ protected-flip w whole (placeOf a) h)
 
--- ---- the mark after the corrector is 1: as found, the line would have matched at once
-pub mark-turned : (w x : Word) → length w ≡ linePlaces → length x ≡ linePlaces → crcMatches w ≡ false → crcMatches x ≡ true
+-- ---- the mark after the corrector is 1: were the line read the line found, the first comparison would have passed it
+pub mark-corrected : (w x : Word) → length w ≡ linePlaces → length x ≡ linePlaces → crcMatches w ≡ false → crcMatches x ≡ true
     → markOf w (withHamming (protected x)) ≡ 1
-mark-turned w x e f m n = go (same w (withHamming (protected x))) refl
+mark-corrected w x e f m n = go (same w (withHamming (protected x))) refl
   where
     go : (b : Bool) → same w (withHamming (protected x)) ≡ b → _≡_ {A = ℕ} (cond b 0 1) 1
     go true s =

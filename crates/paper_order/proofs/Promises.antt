@@ -1,16 +1,15 @@
 -- The promises of the paper's order are kept.
+use mathlib.Core.Path.{refl}
+use Rattle.linecode.specs.Code.{syndrome, answerTo}
 use Rattle.paper_order.specs.Promises.{InPaperOrder}
-use Rattle.paper_order.proofs.Matching.{matches-accepted, matches-unturned}
+use Rattle.paper_order.proofs.Matching.{matches-accepted, matches-past}
 use Rattle.paper_order.proofs.InOrder.{in-places, same-bytes}
-use Rattle.paper_order.proofs.Claims.{single-bit, multi-bit}
 
 pub promises : InPaperOrder
 promises =
     record {
-      compares = matches-accepted;
-      unturned = matches-unturned;
       inPlaces = in-places;
       inBytes = same-bytes;
-      singleBit = single-bit;
-      multiBit = multi-bit;
+      compares = matches-accepted;
+      pastProtected = λ w whole h. matches-past w whole (answerTo (syndrome w)) refl h;
     }

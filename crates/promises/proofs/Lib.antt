@@ -3,3 +3,4 @@ pub mod Lines
 pub mod CorrectTest
 pub mod Promises
 pub mod LineLayout
+pub mod Claims

@@ -1,20 +1,20 @@
 -- Correct lines: they are accepted, add up to correct lines, and differ in at least eight places.
-use mathlib.Core.Path.{_≡_, refl, sym, ap, ap₂, _∙_, subst}
-use mathlib.Core.Bool.{Bool, true, false}
-use mathlib.Core.List.{List, [], _∷_, _++_}
-use Prim.Native.Nat.{ℕ, zero, suc, _+_, _≤_, _<_}
+use mathlib.Core.Path.{_≡_, sym, ap, ap₂, _∙_, subst}
+use mathlib.Core.Bool.{true, false}
+use mathlib.Core.List.{_++_}
+use Prim.Native.Nat.{ℕ, _+_, _≤_}
 use native.Mathlib.Nat.{le-trans}
 use native.Mathlib.Omega.{arith}
 use lib.Dec.{T}
 use lib.Bits.{bitXor, xor-self}
-use lib.ListN.{length, take, drop, getD, length-append, length-take, length-drop, length-replicate}
-use lib.Seq.{take-at, drop-at}
+use lib.ListN.{length, drop, length-append, length-take, length-replicate}
+use lib.Seq.{drop-at}
 use Rattle.gf2.specs.Word.{Word, _⊕_, zeros, same, distance, digits, number}
-use Rattle.gf2.specs.Check.{divisible, crc, columnSum}
+use Rattle.gf2.specs.Check.{crc, columnSum}
 use Rattle.gf2.specs.Polynomial.{remainder}
 use Rattle.gf2.specs.Generator.{generator}
 use Rattle.gf2.proofs.Xor.{xor-append, xor-self as word-self, take-xor}
-use Rattle.gf2.proofs.Digits.{digits-xor, number-small, length-digits}
+use Rattle.gf2.proofs.Digits.{digits-xor, number-small}
 use Rattle.gf2.proofs.Linear.{remainder-xor}
 use Rattle.gf2.proofs.Hamming.{columnSum-xor}
 use Rattle.gf2.proofs.Same.{same-refl}
@@ -27,7 +27,7 @@ use Rattle.linecode.proofs.Line.{protected-is, data-is, places-is}
 use Rattle.linecode.proofs.Positions.{hamming-digits, position-sum-lt}
 use Rattle.linecode.proofs.Syndrome.{syndrome-parts}
 use Rattle.register.proofs.Slicing.{length-generator}
-use Rattle.linecode.proofs.Codeword.{length-protected, accepted-crc, accepted-written, length-dataOf, length-withCrc, length-codeword, protected-codeword, dataOf-codeword}
+use Rattle.linecode.proofs.Codeword.{length-protected, accepted-crc, accepted-written, length-dataOf, length-withCrc, protected-codeword, dataOf-codeword}
 
 -- ---- a correct line is the codeword of its data
 pub correct-length : (w : Word) → Correct w → length w ≡ linePlaces

@@ -9,15 +9,15 @@ use native.Mathlib.Decide.{decLt}
 use native.Mathlib.Omega.{arith}
 use lib.Bits.{bitXor}
 use lib.Dec.{T}
-use lib.ListN.{length, getD, take}
+use lib.ListN.{length, getD}
 use Rattle.gf2.specs.Word.{Word, weight, distance, flip, same}
 use Rattle.gf2.specs.Check.{divisible, crc}
 use Rattle.gf2.specs.Generator.{generator}
 use Rattle.gf2.proofs.Xor.{xor-comm}
 use Rattle.gf2.proofs.Same.{same-refl, same-equal}
 use Rattle.gf2.proofs.Crc.{divisible-crc}
-use Rattle.gf2.proofs.Weight.{distance-self, distance-zero, length-flip, flip-flip, distance-flip, one-flip, OneFlip, take-flip, flip-past}
-use Rattle.linecode.specs.Places.{dataPlaces, protectedPlaces, linePlaces, bitsOf, places, lineOf}
+use Rattle.gf2.proofs.Weight.{distance-self, distance-zero, length-flip, flip-flip, distance-flip, one-flip, OneFlip}
+use Rattle.linecode.specs.Places.{dataPlaces, linePlaces, bitsOf, places, lineOf}
 use Rattle.linecode.specs.Code.{protected, accepted, withHamming, codeword, Correct, positions, syndrome, answerTo}
 use Rattle.linecode.specs.Reading.{Read, acceptedAs, faulty, afterFlip, corrected, firstLook, markOf, readAlone}
 use Rattle.linecode.specs.Before.{acceptedBefore, correctedBefore, readBefore}
@@ -28,7 +28,7 @@ use Rattle.linecode.specs.declared.hamming.Answer.the-variants.{None, Hamming, 
 use Rattle.linecode.proofs.Bytes.{length-bitsOf}
 use Rattle.linecode.proofs.Line.{protected-is, data-is, places-is, places-lineOf}
 use Rattle.register.proofs.Slicing.{length-generator}
-use Rattle.linecode.proofs.Codeword.{length-codeword, length-protected}
+use Rattle.linecode.proofs.Codeword.{length-codeword, protected-flip}
 use Rattle.linecode.proofs.Syndrome.{none-zero, none-above, none-exactly, position-named, power-named, column-position}
 use Rattle.linecode.proofs.Answers.{numbered, hamming-power, place-named}
 use Rattle.promises.proofs.CorrectTest.{tests}
@@ -63,7 +63,8 @@ module _ (found : Word) where
       second : (i : ℕ) (t : Bool) → accepted found ≡ false → answerTo (syndrome found) ≡ Protected i → accepted (flip i found) ≡ t
           → Read-cases
       second i true e n s =
-          inl (flip i found, read-flip found i true e n s, holds (accepted (flip i found)) s, length-flip i found, λ w. distance-flip w found i)
+          inl
+          (flip i found, read-flip found i true e n s, holds (accepted (flip i found)) s, length-flip i found, λ w. distance-flip w found i)
       second i false e n s = inr (read-flip found i false e n s)
 
       answered : (a : Answer) → accepted found ≡ false → answerTo (syndrome found) ≡ a → Read-cases
@@ -141,14 +142,10 @@ module _ (w : Word) (c : Correct w) where
 
   -- in the Hamming bits the protected word is untouched
   untouched : (i : ℕ) → 543 ≤ i → accepted (flip i w) ≡ true
-  unfolding accepted protected
-  untouched i h =
-      ap (divisible generator)
-      (take-flip protectedPlaces i w
-      ∙ flip-past i (take protectedPlaces w) (omega (arith, length-protected w whole, protected-is)))
-      ∙ correct-accepted w c
+  unfolding accepted
+  untouched i h = ap (divisible generator) (protected-flip w whole i (omega (arith, protected-is))) ∙ correct-accepted w c
 
-corrects : (w found : Word) → Correct w → length found ≡ linePlaces → distance w found ≤ 1 → ReadsAs w (readAlone found)
+pub corrects : (w found : Word) → Correct w → length found ≡ linePlaces → distance w found ≤ 1 → ReadsAs w (readAlone found)
 corrects w found c e d = go (accepted found) refl
   where
     hurt : (i : ℕ) → found ≡ flip i w → accepted found ≡ false → Dec (i < 543) → ReadsAs w (readAlone found)

@@ -1,2 +1,3 @@
--- What the line code promises to the layers above.
+-- What the line code promises to the layers above, and section III-C's two claims on damaged lines.
 pub mod Promises
+pub mod Claims

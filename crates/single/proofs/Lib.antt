@@ -1,4 +1,4 @@
--- Laws of the tables that are compiled in, of the loop over them, and of the looks at a line.
+-- Laws of the tables that are compiled in, of the loop over them, and of what a line's numbers tell.
 pub mod Compiled
 pub mod Steps
-pub mod Looks
+pub mod Numbers

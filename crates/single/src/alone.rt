@@ -40,7 +40,7 @@ pub fn rewrite(line: [u8; 70]) -> [u8; 70]
     with_checks(line, worked, wordsums::sum_with(line, worked))
 }
 
-// The corrector: the line with the place turned over that its syndrome names; where it names none, the line as it is.
+// The corrector: the line with the place flipped that its syndrome names; where it names none, the line as it is.
 fn corrected(line: [u8; 70], syndrome: u16) -> [u8; 70]
     requires { ⌜ syndrome ≡ syndrome· (places line) ⌝ }
     ensures { λ r. ⌜ places r ≡ corrector (places line) ⌝ }
@@ -62,18 +62,17 @@ pub fn read_line(line: [u8; 70]) -> Reading
     ensures { λ r. ⌜ r ≡ reading line ⌝ }
 {
     let worked = crc::of_data(line);
-    let stored = linecode::crc::stored(line);
-    let sum = wordsums::sum_with(line, stored);
-    if worked == stored {
+    let sum = wordsums::sum_with(line, linecode::crc::stored(line));
+    if crc::matches(line, worked) {
         return Reading {
             line: with_checks(line, worked, sum),
             mark: linecode::alone::mark_of(line, sum),
         };
     }
-    let turned = corrected(line, sum ^ hamming::stored(line));
-    if crc::of_data(turned) == linecode::crc::stored(turned) {
+    let after = corrected(line, sum ^ hamming::stored(line));
+    if crc::matches(after, crc::of_data(after)) {
         return Reading {
-            line: wordsums::append(turned),
+            line: wordsums::append(after),
             mark: 1,
         };
     }
@@ -87,7 +86,7 @@ pub fn read_line(line: [u8; 70]) -> Reading
 pub fn is_correct(line: [u8; 70]) -> bool
     ensures { λ r. ⌜ r ≡ isCorrect (places line) ⌝ }
 {
-    if crc::matches(line) {
+    if crc::matches(line, crc::of_data(line)) {
         return wordsums::position_sum(line) == hamming::stored(line);
     }
     false

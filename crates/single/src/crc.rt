@@ -17,9 +17,10 @@ pub fn of_data(line: [u8; 70]) -> u32
     tables::after_data(line)
 }
 
-// Whether the CRC worked out from the data is the stored one.
-pub fn matches(line: [u8; 70]) -> bool
+// The comparison of section III-C: whether the CRC of a line's data, as worked out, is the stored one.
+pub fn matches(line: [u8; 70], worked: u32) -> bool
+    requires { ⌜ worked ≡ number (crc generator (dataOf (places line))) ⌝ }
     ensures { λ r. ⌜ r ≡ crcMatches (places line) ⌝ }
 {
-    of_data(line) == stored(line)
+    worked == stored(line)
 }

@@ -132,7 +132,8 @@ fn positions_from(x0: u64, x1: u64, x2: u64, x3: u64, c: u64) -> u64
     (x0 & 255) ^ (((x1 >> 8) & 511) ^ (((x2 >> 17) & 511) ^ (fourth ^ last)))
 }
 
-// Both sums of a line that stands in a buffer, in one number: its bytes are read there, and not copied.
+// Both sums of a line that stands in a buffer, in one number, with the comparison of section III-C: whether the CRC of the data is the
+// stored one. The line's bytes are read there, and not copied.
 fn sums_in(table: &[u64; 4096], line: &[u8]) -> u32
     requires { ⌜ (now table ≡ lineTable) × (length (now line) ≡ 70) ⌝ }
     ensures { λ r. ⌜ r ≡ bothSums (places (now (line .entry))) ⌝ }

@@ -1,9 +1,10 @@
 //! A second implementation of the caption store, written from its rules alone:
-//! document 01, with requests of document 02.
+//! document 01, with requests of document 02 and, for Q-7, sections
+//! III-C and III-E of document 000.
 //!
-//! It is made to be read beside that document, not to be fast: a line is a
-//! row of 553 truth values, a check is a long division, and repair follows
-//! the rules' sentences one by one. Tests hold the proved library against it.
+//! It is made to be read beside them, not to be fast: a line is a row of 553
+//! truth values, a check is a long division, and repair follows the rules'
+//! sentences one by one. Tests hold the proved library against it.
 //!
 //! | Document 01 | Here |
 //! |---|---|

@@ -18,13 +18,12 @@ pub fn read_in_order(found: &Line) -> (Line, u8) {
         return deemed_right(found, found);
     }
     // "once we find a CRC error, we first try the ECC-1-based repair for the line"
-    let turned = corrector(found);
+    let flipped = corrector(found);
     // "If the ECC-1 performed a correction, we recompute the CRC using the corrected
     // data value. If the CRC matches with the stored CRC, we deem the line to be
-    // corrected successfully." Where nothing was turned over, it matches no more than
-    // before.
-    if crc_matches(&turned) {
-        return deemed_right(found, &turned);
+    // corrected successfully." Where nothing was flipped, it matches no more than before.
+    if crc_matches(&flipped) {
+        return deemed_right(found, &flipped);
     }
     // "even after correction using ECC-1, the CRC will continue to deem the line to
     // be faulty": it is kept as found.
@@ -51,16 +50,16 @@ fn crc_over_data(line: &Line) -> Vec<bool> {
 }
 
 /// "the ECC-1-based repair for the line": the one place that the syndrome names is
-/// turned over, in the data, the CRC or the Hamming bits; nothing where it names none.
+/// flipped, in the data, the CRC or the Hamming bits; nothing where it names none.
 fn corrector(found: &Line) -> Line {
     let code = LineCode::store();
-    let mut turned = *found;
+    let mut flipped = *found;
     match code.hamming().named(code.syndrome(found)) {
-        Named::Protected(place) => turned[place] ^= true,
-        Named::Hamming(k) => turned[PROTECTED_PLACES + k] ^= true,
+        Named::Protected(place) => flipped[place] ^= true,
+        Named::Hamming(k) => flipped[PROTECTED_PLACES + k] ^= true,
         Named::None => {}
     }
-    turned
+    flipped
 }
 
 /// A line whose CRC matches: data and CRC as they are, and "then compute the ECC over

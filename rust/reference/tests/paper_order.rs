@@ -46,7 +46,7 @@ fn readings_worked_out_by_hand() {
 }
 
 #[test]
-fn every_place_turned_over() {
+fn every_place_flipped() {
     let mut seen = Seen::default();
     seen.check(written().into_iter().flat_map(every_place), read);
     println!("every place: {seen:?}");
@@ -55,15 +55,12 @@ fn every_place_turned_over() {
 }
 
 #[test]
-fn every_two_places_turned_over() {
+fn every_two_places_flipped() {
     let mut seen = Seen::default();
     seen.check(every_pair(written()[5]), read);
     println!("every two places: {seen:?}");
-    // Of 553 by 552 halved, the pairs of Hamming bits are 10 by 9 halved.
-    let [clean, hamming, corrected, faulty @ ..] = seen.counts();
-    assert_eq!((clean, hamming, corrected), (0, 45, 0));
-    assert_eq!(faulty.iter().sum::<usize>(), 152_628 - 45);
-    assert!(faulty.iter().all(|&count| count > 1_000));
+    // These are all pairs, and the positions alone say how each reads: no count is open.
+    assert_eq!(seen.counts(), q7::counts_of_pairs());
 }
 
 /// These lines hurt at these protected places, each with all 1024 syndromes: so many

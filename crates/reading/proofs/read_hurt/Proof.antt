@@ -1,20 +1,19 @@
 -- `reading::read_hurt` meets its contract: each way out is one of the paper's order after the first comparison.
 use borrow.Author.Needs.{needs}
-use mathlib.Core.Path.{_≡_, sym, ap, ap₂, _∙_, subst}
+use mathlib.Core.Path.{_≡_, sym, ap, ap₂, _∙_}
 use mathlib.Core.List.{List}
-use Prim.Native.Nat.{ℕ, _≤_}
+use Prim.Native.Nat.{ℕ}
 use native.Mathlib.Omega.{arith}
 use lib.Bits.{bitXor}
-use Rattle.linecode.specs.Places.{protectedPlaces, places}
+use Rattle.linecode.specs.Places.{places}
 use Rattle.linecode.specs.Code.{syndrome, answerTo, placeOf}
-use Rattle.linecode.specs.declared.hamming.Answer.{Answer}
 use Rattle.linecode.proofs.Bytes.{array-length}
 use Rattle.linecode.proofs.Line.{length-places}
 use Rattle.linecode.proofs.Syndrome.{syndrome-parts}
 use Rattle.linecode.proofs.ReadAlone.{places-flipped}
 use Rattle.paper_order.specs.PaperOrder.{corrector}
 use Rattle.paper_order.proofs.Matching.{corrector-named, unnamed-past}
-use Rattle.paper_order.proofs.InOrder.{reads-turned, reads-faulty, reads-unturned}
+use Rattle.paper_order.proofs.InOrder.{reads-corrected, reads-faulty, reads-past}
 use Rattle.reading.proofs.Telling.{lower-half, below, above}
 use Rattle.reading.proofs.read_hurt.Statement.{statement}
 use Rattle.reading.proofs.read_hurt.Tie as tie
@@ -47,8 +46,8 @@ returns c =
     let start = named .before .before in
     let l = start .args .line in
     ap (λ (x : List ℕ). record { line = x; mark = 4 }) (c .clear-spare .ensures)
-    ∙ reads-unturned l (array-length 70 l _ (start .good .1 .0)) (start .pre .1 .0)
-    (subst (λ (a : Answer). protectedPlaces ≤ placeOf a) (sym (answered named)) (unnamed-past _ (c .before .match .keys2)))
+    ∙ reads-past l (array-length 70 l _ (start .good .1 .0)) (start .pre .1 .0) _ (answered named)
+    (unnamed-past _ (c .before .match .keys2))
 
 flip-place-requires : tie.Need-flip-place-requires
 flip-place-requires c κs = search needs
@@ -57,10 +56,10 @@ sums-of-requires : tie.Need-sums-of-requires
 sums-of-requires c κs = search needs
 
 -- the corrector's line
-turned : (c : tie.After-flip-place)
+flipped : (c : tie.After-flip-place)
     → places (c .flip-place .result) ≡ corrector (places (c .before .before .before .before .before .before .args .line))
 unfolding placeOf
-turned c =
+flipped c =
     let named = c .before .before in
     let start = named .before .before .before .before in
     let l = start .args .line in
@@ -79,7 +78,7 @@ returns-2 c =
     let start = again .before .before .before .before .before .before .before in
     let l = start .args .line in
     ap (λ (x : List ℕ). record { line = x; mark = 1 }) (c .with-bits .ensures)
-    ∙ reads-turned l (array-length 70 l _ (start .good .1 .0)) _ (start .pre .1 .0) (turned (again .before))
+    ∙ reads-corrected l (array-length 70 l _ (start .good .1 .0)) _ (start .pre .1 .0) (flipped (again .before))
     (below _ _ (again .sums-of .ensures) (c .before .if1 .taken) .0)
 
 clear-spare-requires-2 : tie.Need-clear-spare-requires-2
@@ -91,7 +90,7 @@ returns-3 c =
     let start = again .before .before .before .before .before .before .before in
     let l = start .args .line in
     ap (λ (x : List ℕ). record { line = x; mark = 4 }) (c .clear-spare2 .ensures)
-    ∙ reads-faulty l (array-length 70 l _ (start .good .1 .0)) _ (start .pre .1 .0) (turned (again .before))
+    ∙ reads-faulty l (array-length 70 l _ (start .good .1 .0)) _ (start .pre .1 .0) (flipped (again .before))
     (above _ _ (again .sums-of .ensures) (c .before .if1 .left) .0)
 
 pub read-hurt-spec : {M : Type 1} → statement M

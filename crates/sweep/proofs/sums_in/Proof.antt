@@ -95,7 +95,8 @@ crc-of-requires c κs = search needs
 
 -- whether the CRC of the data is the stored one
 compared : (c : tie.After-crc-of) → let at-half = c .before .before .before in
-    eqb (c .crc-of .result) (at-half .half .result) ≡ crcMatches (places (at-half .before .before .before .before .before .before .before .args .line .now))
+    eqb (c .crc-of .result) (at-half .half .result)
+    ≡ crcMatches (places (at-half .before .before .before .before .before .before .before .args .line .now))
 compared c =
     let at-half = c .before .before .before in
     let at-blocks = at-half .before .before .before .before .before in
@@ -108,7 +109,8 @@ compared c =
     c .crc-of .ensures _ _ _ _ (block-length l whole bytes 16 (omega arith)) (block-length l whole bytes 32 (omega arith))
     (block-length l whole bytes 48 (omega arith)) (b 0 (omega arith)) (b 1 (omega arith)) (b 2 (omega arith)) (b 3 (omega arith))
     ∙ ap (after 0) (data-blocks l whole bytes) in
-    matches-numbers (places l) (c .crc-of .result) (at-half .half .result) (length-places l whole) (crc-after l (c .crc-of .result) whole crc)
+    matches-numbers (places l) (c .crc-of .result) (at-half .half .result) (length-places l whole)
+    (crc-after l (c .crc-of .result) whole crc)
     (stored-number l whole bytes (at-half .half .result) (at-half .half .ensures))
 
 returns : tie.Need-returns

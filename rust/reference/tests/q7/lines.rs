@@ -7,7 +7,7 @@ use reference::{DATA_BYTES, DATA_PLACES, HAMMING_PLACES, LINE_BYTES, PLACES, PRO
 
 use super::{Bytes, Kind, Reading, syndrome};
 
-/// Places of a written line turned over, and how it then reads. Place 0 has position
+/// Places flipped in a written line, and how it then reads. Place 0 has position
 /// 3, place 1 has 5, then 6, 7, 9; place 512 has 523, place 542 has 553; Hamming bit
 /// k, which is place 543+k, has 2^k.
 const BY_HAND: [(&[usize], Kind); 26] = [
@@ -38,7 +38,8 @@ const BY_HAND: [(&[usize], Kind); 26] = [
     (&[0, 543], Kind::HammingNamed),
     (&[0, 544], Kind::HammingNamed),
     // 523 and 524 make 7: two places of the CRC name place 3. So 7 and 523 make 524:
-    // place 3 and one of the CRC name another of the CRC.
+    // place 3 and one of the CRC name another of the CRC. 553 and 512 make 41: place 34,
+    // since of the numbers to 41 six are powers of two and 35 the positions of 0 to 34.
     (&[512, 513], Kind::ProtectedNamed),
     (&[3, 512], Kind::ProtectedNamed),
     (&[542, 552], Kind::ProtectedNamed),
@@ -80,18 +81,18 @@ pub fn written(random: &mut Random) -> [Bytes; 6] {
     data.map(|data| line::bytes(&line::written(&data)))
 }
 
-/// The line with these places turned over.
+/// The line with these places flipped.
 pub fn hurt(mut line: Bytes, places: &[usize]) -> Bytes {
     flip(&mut line, places);
     line
 }
 
-/// The line with each place turned over.
+/// The line with each place flipped.
 pub fn every_place(line: Bytes) -> impl Iterator<Item = Bytes> {
     (0..PLACES).map(move |place| hurt(line, &[place]))
 }
 
-/// The line with every two places turned over.
+/// The line with every two places flipped.
 pub fn every_pair(line: Bytes) -> impl Iterator<Item = Bytes> {
     let pairs = (0..PLACES).flat_map(|second| (0..second).map(move |first| [first, second]));
     pairs.map(move |pair| hurt(line, &pair))

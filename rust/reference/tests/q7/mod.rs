@@ -34,9 +34,9 @@ pub enum Kind {
     HammingHurt,
     /// Accepted after the corrector: mark 1.
     Corrected,
-    /// Faulty, though the corrector turned a protected place over.
+    /// Faulty, though the corrector flipped a protected place.
     ProtectedNamed,
-    /// Faulty; the corrector turned a Hamming place over.
+    /// Faulty; the corrector flipped a Hamming place.
     HammingNamed,
     /// Faulty; the syndrome names no place.
     NoneNamed,
@@ -114,17 +114,41 @@ fn by_correct_lines(found: &Bytes) -> (Kind, Reading) {
         return (kind, kind.reading(found, &line::bytes(&written)));
     }
     let named = named(syndrome(&places));
-    let mut turned = places;
+    let mut flipped = places;
     if let Some(place) = named {
-        turned[place] ^= true;
+        flipped[place] ^= true;
     }
     let kind = match named {
-        Some(_) if line::correct(&turned) => Kind::Corrected,
+        Some(_) if line::correct(&flipped) => Kind::Corrected,
         Some(place) if place < PROTECTED_PLACES => Kind::ProtectedNamed,
         Some(_) => Kind::HammingNamed,
         None => Kind::NoneNamed,
     };
-    (kind, kind.reading(found, &line::bytes(&turned)))
+    (kind, kind.reading(found, &line::bytes(&flipped)))
+}
+
+/// How a written line reads with the places of these two positions flipped; powers of
+/// two are those of Hamming bits. With both in the Hamming bits it is accepted at once.
+/// Otherwise the exclusive or, which is neither 0 nor one of the two, names a third place
+/// or none. Of the protected places one to three are then hurt, too few for a word that
+/// is divisible: the line is faulty.
+fn kind_of_pair(first: usize, second: usize) -> Kind {
+    match first ^ second {
+        _ if first.is_power_of_two() && second.is_power_of_two() => Kind::HammingHurt,
+        named if named > 553 => Kind::NoneNamed,
+        named if named.is_power_of_two() => Kind::HammingNamed,
+        _ => Kind::ProtectedNamed,
+    }
+}
+
+/// How often each kind comes up, in the order of [`Kind::ALL`], when every two places of
+/// a written line are flipped: their positions are every two numbers from 1 to 553.
+pub fn counts_of_pairs() -> [usize; 6] {
+    let mut seen = Seen::default();
+    for second in 1..=553 {
+        (1..second).for_each(|first| seen.count(kind_of_pair(first, second)));
+    }
+    seen.counts()
 }
 
 /// How often readings were of each kind.
@@ -132,6 +156,11 @@ fn by_correct_lines(found: &Bytes) -> (Kind, Reading) {
 pub struct Seen(BTreeMap<Kind, usize>);
 
 impl Seen {
+    /// One more reading of this kind.
+    fn count(&mut self, kind: Kind) {
+        *self.0.entry(kind).or_default() += 1;
+    }
+
     /// What the paper's order gives for a line, which must be what correct lines say.
     fn due(&mut self, found: &Bytes) -> Reading {
         let (kind, reading) = by_correct_lines(found);
@@ -141,7 +170,7 @@ impl Seen {
             (&reading.0[..], reading.1),
             "{kind:?}: {found:?}"
         );
-        *self.0.entry(kind).or_default() += 1;
+        self.count(kind);
         reading
     }
 

@@ -6,17 +6,14 @@ use Rattle.paper_order.proofs.Matching.{matches-numbers}
 use Rattle.single.proofs.crc.matches.Statement.{statement}
 use Rattle.single.proofs.crc.matches.Tie as tie
 
-of-data-requires : tie.Need-of-data-requires
-of-data-requires c κs = search needs
-
 stored-requires : tie.Need-stored-requires
 stored-requires c κs = search needs
 
 returns : tie.Need-returns
 returns c =
-    let start = c .before .before in
+    let start = c .before in
     let l = start .args .line in
-    matches-numbers _ _ _ (length-places l (array-length 70 l _ (start .good .0))) (c .before .of-data .ensures) (c .stored .ensures)
+    matches-numbers _ _ _ (length-places l (array-length 70 l _ (start .good .0))) (start .pre) (c .stored .ensures)
 
 pub matches-spec : {M : Type 1} → statement M
-matches-spec = tie.close (tie.spec of-data-requires stored-requires returns)
+matches-spec = tie.close (tie.spec stored-requires returns)
