@@ -170,7 +170,7 @@ uint32_t sudoku_write_line(const uint8_t *data, size_t data_len, uint8_t *line, 
 
 /*
  * Reads one line alone into `out`, 70 bytes with spare bits 0, and sets `mark`. One damaged bit is mended, and so is any damage in
- * the ten Hamming bits alone.
+ * the ten Hamming bits alone; with any other two to six damaged bits the line is faulty.
  *
  * Answers: 0, with mark 0 if the line is correct as found and 1 if any of its bits, spare bits apart, was rewritten; 5 if `line_len`
  * is not 70; 7 if `out_len` is not 70; 10 if the line is faulty: `out` is then the line as found, spare bits 0, and the mark is 4.

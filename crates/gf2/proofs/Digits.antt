@@ -6,7 +6,7 @@ use Prim.Native.Nat.{ℕ, zero, suc, _+_, _*_, _/_, _%_, _^_, _<_}
 use native.Mathlib.Nat.{le-of-suc-le-suc, not-suc-le-zero, zero-add, suc-add, pow-suc, mod-eq-of-lt}
 use native.Mathlib.Omega.{arith}
 use lib.Arith.{bin-ind, mod-mul}
-use lib.Bits.{bitXor, differ, xor-step, xor-shr, xor-add-and, and-le-l, and-le-r}
+use lib.Bits.{bitXor, differ, xor-step, xor-shr, xor-add-and, and-le-l, and-le-r, xor-comm}
 use lib.Dec.{eqb}
 use lib.ListN.{length, getD}
 use lib.Pow.{pow-pos, shr-shr}
@@ -31,7 +31,7 @@ differ-digit (suc zero) (suc zero) h k = (omega arith, refl)
 differ-digit (suc zero) (suc (suc y)) h k = let z : ⊥ = omega arith in absurd z
 differ-digit (suc (suc x)) y h k = let z : ⊥ = omega arith in absurd z
 
-low-differ : (a b : ℕ) → bitXor a b % 2 ≡ differ (a % 2) (b % 2)
+pub low-differ : (a b : ℕ) → bitXor a b % 2 ≡ differ (a % 2) (b % 2)
 low-differ a b =
     let d = differ-digit (a % 2) (b % 2) (omega arith) (omega arith) in
     let s = xor-step a b in
@@ -80,6 +80,12 @@ bitXor-assoc =
         ∙ differ-assoc (a % 2) (b % 2) (c % 2) (omega arith) (omega arith) (omega arith)
         ∙ ap (differ (a % 2)) (sym (low-differ b c)))
         ∙ sym (xor-step a (bitXor b c))
+
+pub bitXor-middle : (a b c d : ℕ) → bitXor (bitXor a b) (bitXor c d) ≡ bitXor (bitXor a c) (bitXor b d)
+bitXor-middle a b c d =
+    bitXor-assoc a b (bitXor c d)
+    ∙ ap (bitXor a) (sym (bitXor-assoc b c d) ∙ ap (λ (n : ℕ). bitXor n d) (xor-comm b c) ∙ bitXor-assoc c b d)
+    ∙ sym (bitXor-assoc a c (bitXor b d))
 
 -- ---- digits and number undo one another
 number-cons : (n : ℕ) (w : Word) → number (eqb (n % 2) 1 ∷ w) ≡ number w * 2 + n % 2

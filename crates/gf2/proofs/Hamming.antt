@@ -88,7 +88,7 @@ bit-xor : (k a b : ℕ) → bit k (bitXor a b) ≡ bit k a ⊻ bit k b
 bit-xor k a b =
     ap (λ (n : ℕ). eqb (n % 2) 1) (xor-shr a b k) ∙ low-xor (a / 2 ^ k) (b / 2 ^ k)
 
-bit-zero : (k : ℕ) → bit k 0 ≡ false
+pub bit-zero : (k : ℕ) → bit k 0 ≡ false
 bit-zero k = ap (λ (n : ℕ). eqb (n % 2) 1) (div-eq-of-lt (pow-pos k))
 
 and-true : (a : Bool) → a && true ≡ a

@@ -13,6 +13,7 @@ use Rattle.gf2.specs.Word.{Word, zeros, isZero}
 use Rattle.linecode.specs.Places.{linePlaces, lineBytes, places, lineOf}
 use Rattle.linecode.specs.Code.{upFrom}
 use Rattle.scheme.specs.Visit.{setPlaces}
+use Rattle.scheme.proofs.Words.{isZero-zeros}
 use Rattle.rectangle.specs.Store.{bytesAt, putBytes, putLine}
 use Rattle.rectangle.specs.Refusals.{every}
 use Rattle.rectangle.proofs.Buffer.{length-putLine, bytesAt-put, bytesAt-other}
@@ -34,10 +35,6 @@ zero-word (true ∷ w) e = let z : _≡_ {A = Bool} true false = sym e in absurd
         number : Bool → ℕ
         number true = 0
         number false = 1
-
-zeros-zero : (n : ℕ) → isZero (zeros n) ≡ true
-zeros-zero zero = refl
-zeros-zero (suc n) = zeros-zero n
 
 zeros-places : (i n : ℕ) → setPlaces i (zeros n) ≡ []
 zeros-places i zero = refl
@@ -79,7 +76,7 @@ zero-lineOf w e = equal (allZero (lineOf w)) (isZero w) there back
   where
     there : allZero (lineOf w) ≡ true → isZero w ≡ true
     there z =
-        ap isZero (sym (places-lineOf w e) ∙ ap places (zero-bytes (lineOf w) (seventy-lineOf w) z) ∙ zero-places) ∙ zeros-zero linePlaces
+        ap isZero (sym (places-lineOf w e) ∙ ap places (zero-bytes (lineOf w) (seventy-lineOf w) z) ∙ zero-places) ∙ isZero-zeros linePlaces
 
     back : isZero w ≡ true → allZero (lineOf w) ≡ true
     back z = ap allZero (ap lineOf (zero-word w z ∙ ap zeros e) ∙ zero-line) ∙ all-zero

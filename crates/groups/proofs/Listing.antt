@@ -3,15 +3,13 @@ use mathlib.Core.Path.{_≡_, refl, sym, ap, _∙_, subst}
 use mathlib.Core.Bool.{Bool, true, false}
 use mathlib.Core.List.{List, [], _∷_, _++_, append-nil, append-assoc}
 use Prim.Native.Nat.{ℕ, zero, suc, _+_, _-_, _/_, _%_, _≤_, _<_}
-use native.Mathlib.Nat.{div-eq-of-lt}
-use lib.Pow.{pow-pos}
 use native.Mathlib.Numerals.{add-one}
 use native.Mathlib.Omega.{arith}
-use lib.Dec.{eqb}
 use lib.ListN.{length, take, drop, getD, set, replicate, length-append, length-set, drop-of-length-le}
 use lib.Seq.{drop-cons, take-suc-set}
 use Rattle.gf2.specs.Word.{Word}
 use Rattle.gf2.specs.Check.{bit}
+use Rattle.gf2.proofs.Hamming.{bit-zero}
 use Rattle.linecode.specs.Places.{places}
 use Rattle.promises.proofs.LineLayout.{layout}
 use Rattle.scheme.specs.Visit.{setPlaces}
@@ -114,9 +112,6 @@ listing-past w array count i r l h e f = go (r - i) i l (omega arith) f
         go m (j + 1) (listing-clear w array count j a (omega arith) (q j (omega arith) (omega arith))) (omega arith) (λ k x y. q k (omega arith) y)
 
 -- a byte of zeros has no set place
-bit-zero : (k : ℕ) → bit k 0 ≡ false
-bit-zero k = ap (λ (n : ℕ). eqb (n % 2) 1) (div-eq-of-lt (pow-pos k))
-
 pub byte-past : (line : List ℕ) → length line ≡ 70 → (i : ℕ) → i < 536 → i % 8 ≡ 0 → getD line (i / 8) 0 ≡ 0
     → (k : ℕ) → i < k → k < i + 8 → getD (places line) k false ≡ false
 byte-past line e i h m z k a b =

@@ -14,7 +14,7 @@ use lib.Pow.{pow-pos, split}
 use lib.Seq.{length-take-le}
 use Rattle.gf2.specs.Word.{Word, digits, number}
 use Rattle.gf2.specs.Check.{columnSum}
-use Rattle.gf2.proofs.Digits.{length-digits, digits-xor, number-small, bitXor-assoc}
+use Rattle.gf2.proofs.Digits.{length-digits, digits-xor, number-small, bitXor-middle, low-differ}
 use Rattle.gf2.proofs.Hamming.{columnSum-xor, columnSum-append}
 use Rattle.linecode.proofs.Positions.{and-parts}
 
@@ -28,12 +28,6 @@ on-digits P a b c d (suc zero) (suc zero) h k = d
 on-digits P a b c d zero (suc (suc y)) h k = let z : ⊥ = omega arith in absurd z
 on-digits P a b c d (suc zero) (suc (suc y)) h k = let z : ⊥ = omega arith in absurd z
 on-digits P a b c d (suc (suc x)) y h k = let z : ⊥ = omega arith in absurd z
-
-low-xor : (a b : ℕ) → bitXor a b % 2 ≡ differ (a % 2) (b % 2)
-low-xor a b =
-    let s = xor-step a b in
-    let small = on-digits (λ x y. differ x y < 2) (omega arith) (omega arith) (omega arith) (omega arith) (a % 2) (b % 2) (omega arith) (omega arith) in
-    omega arith
 
 low-and : (a b : ℕ) → bitAnd a b % 2 ≡ min (a % 2) (b % 2)
 low-and a b =
@@ -57,7 +51,7 @@ and-xor =
         ∙ ap₂ (λ (x y : ℕ). x * 2 + y)
         (ap (λ (x : ℕ). bitAnd x (m / 2)) (xor-shr a b 1) ∙ ih (b / 2) (m / 2)
         ∙ ap₂ bitXor (sym (and-shr a m 1)) (sym (and-shr b m 1)))
-        (ap (λ (x : ℕ). min x (m % 2)) (low-xor a b)
+        (ap (λ (x : ℕ). min x (m % 2)) (low-differ a b)
         ∙ masks (a % 2) (b % 2) (m % 2) (omega arith) (omega arith) (omega arith)
         ∙ ap₂ differ (sym (low-and a m)) (sym (low-and b m)))
         ∙ sym (xor-step (bitAnd a m) (bitAnd b m))
@@ -67,12 +61,6 @@ shl-xor a b k =
     sym (ap₂ bitXor (sym (add-zero (a * 2 ^ k))) (sym (add-zero (b * 2 ^ k)))
     ∙ xor-block k a b 0 0 (pow-pos k) (pow-pos k)
     ∙ add-zero (bitXor a b * 2 ^ k))
-
-pub swap-middle : (a b c d : ℕ) → bitXor (bitXor a b) (bitXor c d) ≡ bitXor (bitXor a c) (bitXor b d)
-swap-middle a b c d =
-    bitXor-assoc a b (bitXor c d)
-    ∙ ap (bitXor a) (sym (bitXor-assoc b c d) ∙ ap (λ (n : ℕ). bitXor n d) (xor-comm b c) ∙ bitXor-assoc c b d)
-    ∙ sym (bitXor-assoc a c (bitXor b d))
 
 -- ---- words side by side
 -- added word by word; where one list is longer, its further words stand as they are
@@ -120,7 +108,7 @@ lin-shl {f} k j l =
 
 pub lin-xor : {f g : List ℕ → ℕ} → Linear f → Linear g → Linear (λ (d : List ℕ). bitXor (f d) (g d))
 lin-xor {f} {g} l m =
-    record { adds = λ x y. ap₂ bitXor (l .adds x y) (m .adds x y) ∙ swap-middle (f x) (f y) (g x) (g y) }
+    record { adds = λ x y. ap₂ bitXor (l .adds x y) (m .adds x y) ∙ bitXor-middle (f x) (f y) (g x) (g y) }
 
 -- a sum of columns over the bits of a word
 pub lin-columns : {f : List ℕ → ℕ} (cs : List ℕ) (k : ℕ) → Linear f → Linear (λ (d : List ℕ). columnSum cs (digits k (f d)))

@@ -128,6 +128,9 @@ pub position-sum-lt : (w : Word) → columnSum positions w < 1024
 unfolding positions
 position-sum-lt w = columnSum-lt 10 positions w tt
 
+pub sum-lt : (r : ℕ) (w : Word) → r ≡ columnSum positions w → r < 1024
+sum-lt r w e = let h = position-sum-lt w in omega arith
+
 -- ---- the Hamming bits are the digits of the sum of positions
 digits-upFrom : (i k n : ℕ) → map (λ j. bit j n) (upFrom i k) ≡ digits k (n / 2 ^ i)
 digits-upFrom i zero n = refl

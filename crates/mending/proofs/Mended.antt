@@ -2,7 +2,7 @@
 use mathlib.Core.Path.{_≡_, sym, ap, ap₂, _∙_, subst}
 use mathlib.Core.Logic.{_⊎_, inl, inr}
 use mathlib.Core.Bool.{Bool, true, false}
-use mathlib.Core.List.{List, [], _∷_}
+use mathlib.Core.List.{List, []}
 use Prim.Native.Nat.{ℕ, _+_, _-_, _*_, _/_, _%_, _<_}
 use native.Mathlib.Decide.{ℕ-discrete}
 use native.Mathlib.Omega.{arith}
@@ -16,7 +16,7 @@ use Rattle.linecode.specs.Places.{linePlaces, places, lineOf, xorBytes}
 use Rattle.scheme.specs.Layer.{Cell}
 use Rattle.scheme.specs.Visit.{State, cellAt, lineAt, isFaulty, faultyOf}
 use Rattle.scheme.specs.Demand3.{_∈_}
-use Rattle.scheme.proofs.Lists.{selects}
+use Rattle.scheme.proofs.Lists.{selects, some-there}
 use Rattle.rectangle.specs.Store.{bytesAt, putBytes}
 use Rattle.rectangle.proofs.Groups.{row-below, column-below}
 use Rattle.rectangle.proofs.Spare.{places-lineOf}
@@ -26,11 +26,6 @@ use Rattle.groups.proofs.Beside.{one-if, clean-sum, beside-elsewhere, beside-he
 use Rattle.groups.proofs.Held.{held-count, held-mark, held-bytes, held-put}
 use Rattle.groups.proofs.Added.{put-length, put-same, put-other}
 use Rattle.groups.proofs.Joined.{added}
-
--- a list with a member is not empty
-some-there : (n : ℕ) (l : List ℕ) → n ∈ l → 0 < length l
-some-there n [] i = absurd i
-some-there n (m ∷ l) i = omega arith
 
 -- a line's row and column under other names
 named : (columns n : ℕ) (P : ℕ → ℕ → Type 0) → P (n / columns) (n % columns) → (r c : ℕ) → r ≡ n / columns → c ≡ n % columns → P r c

@@ -22,18 +22,19 @@ unfoldable pub corrector : Word → Word
 corrector w = flip (placeOf (answerTo (syndrome w))) w
 
 -- after step 1 "the line is deemed to be non-faulty" (III-B), after step 3 "we deem the line to be corrected successfully": data and CRC as
--- compared, "the ECC over CRC and data" (III-E) afresh, and document 01's mark, 0 or 1, by the line found
+-- compared, "the ECC over CRC and data" (III-E) afresh, and request Q-1's mark, 0 or 1, by the line found
 abbrev pub deemedNonFaulty : Word → Word → Read
 deemedNonFaulty found compared = acceptedAs found (withHamming (protected compared))
 
 -- step 3, "If the ECC-1 performed a correction, we recompute the CRC using the corrected data value" (where it performed none, this ends as
--- step 1 did: `pastProtected`). "If the CRC matches with the stored CRC, we deem the line to be corrected successfully"; else "even after
--- correction using ECC-1, the CRC will continue to deem the line to be faulty", and document 01 keeps it as found
+-- step 1 did: `pastProtected`). "If the CRC matches with the stored CRC", that of the corrected line, since the ECC is "to correct single-bit
+-- faults in both the CRC and the data" (III-E), "we deem the line to be corrected successfully"; else "even after correction using ECC-1, the
+-- CRC will continue to deem the line to be faulty", and document 01 keeps it as found
 abbrev pub comparedAgain : Word → Word → Read
 comparedAgain found corrected = cond (crcMatches corrected) (deemedNonFaulty found corrected) (faulty found)
 
--- steps 1 to 3, "When a line is accessed, the CRC associated with the line will detect possible errors"; "once we find a CRC error, we first
--- try the ECC-1-based repair for the line"
+-- steps 1 to 3, "When a line is accessed, the CRC associated with the line will detect possible errors"; "once we find a CRC error, we
+-- first try the ECC-1-based repair for the line"
 unfoldable pub readInOrder : Word → Read
 readInOrder found = cond (crcMatches found) (deemedNonFaulty found found) (comparedAgain found (corrector found))
 

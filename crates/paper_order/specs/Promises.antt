@@ -1,5 +1,5 @@
--- What the single reading in the paper's order gives: the line and mark of document 01's reading, for any 70 bytes. Section III-C's claims
--- on damaged lines are in promises/specs/Claims.antt.
+-- What the single reading in the paper's order gives: the line and mark of the reading as it stands, for any 70 bytes. Section III-C's
+-- claims on damaged lines are in promises/specs/Claims.antt.
 use mathlib.Core.Path.{_≡_}
 use mathlib.Core.List.{List}
 use Prim.Native.Nat.{ℕ, _≤_}

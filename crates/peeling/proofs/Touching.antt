@@ -2,7 +2,7 @@
 use mathlib.Core.Path.{_≡_, refl, sym, ap, subst, _∙_}
 use mathlib.Core.Logic.{_⊎_, inl, inr}
 use mathlib.Core.Bool.{Bool, true, false}
-use mathlib.Core.List.{List, [], _∷_}
+use mathlib.Core.List.{List}
 use Prim.Native.Nat.{ℕ, _+_, _-_, _*_, _/_, _%_, _<_}
 use native.Mathlib.Decide.{ℕ-discrete}
 use native.Mathlib.Omega.{arith}
@@ -12,17 +12,12 @@ use lib.ListN.{length, getD, set, length-set}
 use lib.Seq.{getD-set-same, getD-set-other}
 use Rattle.scheme.specs.Visit.{select}
 use Rattle.scheme.specs.Demand3.{_∈_}
-use Rattle.scheme.proofs.Lists.{selects, select-ext}
+use Rattle.scheme.proofs.Lists.{selects, select-ext, some-there}
 use Rattle.rectangle.proofs.Groups.{row-below, column-below}
 use Rattle.groups.specs.Lent.{membersOf}
 use Rattle.groups.proofs.Beside.{one-if, count-changed}
 use Rattle.groups.proofs.Numbers.{members-rising, home-row, home-column, homes}
 use Rattle.peeling.specs.Lent.{CountedBy, markedFaulty, Sides, Counted}
-
--- a list with a member is not empty
-some-there : (n : ℕ) (l : List ℕ) → n ∈ l → 0 < length l
-some-there n [] i = absurd i
-some-there n (m ∷ l) i = omega arith
 
 module _ (rows columns : ℕ) (faulty : List ℕ) (sides : Sides rows columns faulty) where
   pub some-columns : 0 < columns

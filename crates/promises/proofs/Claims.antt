@@ -1,4 +1,4 @@
--- Section III-C's two claims: one damaged place is mended; of more, the CRC still tells after the corrector.
+-- Section III-C's two claims: one damaged place is mended; of two to six, not all of them Hamming bits, the CRC tells after the corrector.
 use mathlib.Core.Path.{_≡_, refl, sym, ap, _∙_, subst}
 use mathlib.Core.Bool.{Bool, true, false}
 use Prim.Native.Nat.{ℕ, _≤_}

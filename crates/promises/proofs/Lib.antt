@@ -1,4 +1,4 @@
--- The promises are kept.
+-- The promises are kept, and section III-C's two claims hold.
 pub mod Lines
 pub mod CorrectTest
 pub mod Promises

@@ -1,7 +1,7 @@
 -- Section III-C's two claims on damaged lines (document 000), of the single reading in its order, with the bounds under which they hold.
 use mathlib.Core.Path.{_≡_}
 use mathlib.Core.Bool.{false}
-use Prim.Native.Nat.{ℕ, _≤_}
+use Prim.Native.Nat.{_≤_}
 use lib.ListN.{length}
 use Rattle.gf2.specs.Word.{Word, distance}
 use Rattle.linecode.specs.Places.{linePlaces}

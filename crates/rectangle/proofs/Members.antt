@@ -5,15 +5,12 @@ use mathlib.Core.List.{List, [], _∷_, _++_, map}
 use Prim.Native.Nat.{ℕ, zero, suc, _+_, _≤_, _<_}
 use native.Mathlib.Nat.{suc-add, add-suc, le-of-suc-le-suc, not-suc-le-zero}
 use native.Mathlib.Omega.{arith}
-use lib.ListN.{length, getD}
+use lib.ListN.{getD}
 use Rattle.linecode.specs.Code.{upFrom}
+pub use Rattle.register.proofs.TableRule.{length-upFrom}
 use Rattle.scheme.specs.Demand3.{_∈_}
 
 -- ---- k numbers from n upward
-pub length-upFrom : (n k : ℕ) → length (upFrom n k) ≡ k
-length-upFrom n zero = refl
-length-upFrom n (suc k) = ap suc (length-upFrom (suc n) k)
-
 pub in-upFrom : (n k i : ℕ) → i < k → (n + i) ∈ upFrom n k
 in-upFrom n zero i h = absurd (not-suc-le-zero h)
 in-upFrom n (suc k) zero h = inl (omega arith)

@@ -11,7 +11,7 @@ use Rattle.gf2.specs.Word.{Word, _⊕_, zeros, digits, number}
 use Rattle.gf2.specs.Polynomial.{divide}
 use Rattle.gf2.specs.Generator.{generator}
 use Rattle.gf2.proofs.Crc.{zeros-xor}
-use Rattle.gf2.proofs.Digits.{length-digits, digits-number, digits-zero, digits-xor, number-lt, number-small, bitXor-assoc}
+use Rattle.gf2.proofs.Digits.{length-digits, digits-number, digits-zero, digits-xor, number-lt, number-small, bitXor-assoc, bitXor-middle}
 use Rattle.gf2.proofs.Linear.{length-divide, divide-xor}
 use Rattle.gf2.proofs.Register.{feed, feed-zeros, feed-digits}
 use Rattle.register.specs.Slices.{eightSteps, next, fed, after}
@@ -100,19 +100,13 @@ unfolding after
 after-append r xs ys = fed-append r xs ys
 
 -- ---- what stood in the register comes through apart from the bytes
-four : (a b c d : ℕ) → bitXor (bitXor a b) (bitXor c d) ≡ bitXor (bitXor a c) (bitXor b d)
-four a b c d =
-    bitXor-assoc a b (bitXor c d)
-    ∙ ap (bitXor a) (sym (bitXor-assoc b c d) ∙ ap (λ (n : ℕ). bitXor n d) (xor-comm b c) ∙ bitXor-assoc c b d)
-    ∙ sym (bitXor-assoc a c (bitXor b d))
-
 next-xor : (s r b : ℕ) → s < 2 ^ 31 → next (bitXor s r) b ≡ bitXor (eightSteps s) (next r b)
 next-xor s r b h =
     ap₂ bitXor
     (ap eightSteps (ap (λ (n : ℕ). n % 256) (bitXor-assoc s r b) ∙ xor-mod s (bitXor r b) 8)
     ∙ eight-xor (s % 256) (bitXor r b % 256))
     (xor-shr s r 8)
-    ∙ four (eightSteps (s % 256)) (eightSteps (bitXor r b % 256)) (s / 256) (r / 256)
+    ∙ bitXor-middle (eightSteps (s % 256)) (eightSteps (bitXor r b % 256)) (s / 256) (r / 256)
     ∙ ap (λ (n : ℕ). bitXor n (next r b)) (sym (eight-split s h))
 
 fed-xor : (s r : ℕ) (bs : List ℕ) → s < 2 ^ 31 → fed (bitXor s r) bs ≡ bitXor (fed r bs) (times (length bs) s)

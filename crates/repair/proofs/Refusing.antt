@@ -1,15 +1,14 @@
 -- What repair refuses.
 use mathlib.Core.Path.{_≡_, sym}
-use mathlib.Core.Bool.{true, _&&_, and-eq-true-iff}
+use mathlib.Core.Bool.{_&&_, and-eq-true-iff}
 use mathlib.Core.List.{List}
-use Prim.Native.Nat.{ℕ, _*_, _≤_}
-use native.Mathlib.Nat.{mul-le-mul-right}
+use Prim.Native.Nat.{ℕ, _*_}
 use native.Mathlib.Omega.{arith}
 use borrow.Author.Tests.{eqb-true, eq-eqb, ne-eqb}
 use lib.Dec.{eqb}
 use lib.ListN.{length}
 use Rattle.linecode.specs.Places.{lineBytes}
-use Rattle.rectangle.specs.Refusals.{unless, sidesFit, holds, tablesFit, repairRefusal}
+use Rattle.rectangle.specs.Refusals.{unless, holds, tablesFit, repairRefusal}
 use Rattle.rectangle.proofs.Groups.{sides}
 use Rattle.rectangle.proofs.Refusing.{sizeTests, sizes-refused, sizes-then, sizes-next, SizesPass}
 use Rattle.rectangle.proofs.Tests.{passed}
@@ -90,9 +89,3 @@ module _ (rows columns : ℕ) (lines rt ct out marks ro co : List ℕ) where
               markBytes = eqb-true (length marks) (rows * columns) (b .1);
             };
       }
-
--- a rectangle that fits has few lines
-pub few : (rows columns : ℕ) → sidesFit rows columns ≡ true → rows * columns ≤ 262144
-few rows columns e =
-    let s = sides rows columns e in
-    omega (arith, mul-le-mul-right columns (s .rowsHigh), s .columnsHigh)

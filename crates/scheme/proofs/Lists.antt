@@ -3,11 +3,16 @@ use mathlib.Core.Path.{_≡_, refl, sym, ap, _∙_}
 use mathlib.Core.Logic.{inl, inr}
 use mathlib.Core.Bool.{Bool, true, false, cond}
 use mathlib.Core.List.{List, [], _∷_, map}
-use Prim.Native.Nat.{ℕ, zero, suc, _≤_}
+use Prim.Native.Nat.{ℕ, zero, suc, _≤_, _<_}
 use native.Mathlib.Omega.{arith}
 use lib.ListN.{length, set}
 use Rattle.scheme.specs.Visit.{select}
 use Rattle.scheme.specs.Demand3.{_∈_, Rising}
+
+-- a list with a member is not empty
+pub some-there : (n : ℕ) (l : List ℕ) → n ∈ l → 0 < length l
+some-there n [] i = absurd i
+some-there n (m ∷ l) i = omega arith
 
 module _ {A : Type 0} (test : A → Bool) where
   -- what is selected was there and passes the test

@@ -33,7 +33,7 @@ place-light (false ∷ x) zero h = refl
 place-light (false ∷ x) (suc p) h = place-light x p h
 place-light (true ∷ x) p h = let z : ⊥ = omega arith in absurd z
 
-isZero-zeros : (n : ℕ) → isZero (zeros n) ≡ true
+pub isZero-zeros : (n : ℕ) → isZero (zeros n) ≡ true
 isZero-zeros zero = refl
 isZero-zeros (suc n) = isZero-zeros n
 

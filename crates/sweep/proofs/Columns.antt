@@ -8,15 +8,15 @@ use lib.Bits.{bitAnd, bitXor}
 use lib.ListN.{length, take, drop}
 use Rattle.gf2.specs.Word.{Word}
 use Rattle.gf2.specs.Check.{columnSum}
-use Rattle.gf2.proofs.Digits.{bitXor-assoc}
+use Rattle.gf2.proofs.Digits.{bitXor-assoc, bitXor-middle}
 use Rattle.register.proofs.Additive.{Additive, additive-zero}
-use Rattle.linecode.proofs.Linear.{and-xor, swap-middle}
+use Rattle.linecode.proofs.Linear.{and-xor}
 
 pub add-and : (g : ℕ → ℕ) (m : ℕ) → Additive g → Additive (λ n. bitAnd (g n) m)
 add-and g m l a b = ap (λ (n : ℕ). bitAnd n m) (l a b) ∙ and-xor (g a) (g b) m
 
 pub add-xor : (f g : ℕ → ℕ) → Additive f → Additive g → Additive (λ n. bitXor (f n) (g n))
-add-xor f g l m a b = ap₂ bitXor (l a b) (m a b) ∙ swap-middle (f a) (f b) (g a) (g b)
+add-xor f g l m a b = ap₂ bitXor (l a b) (m a b) ∙ bitXor-middle (f a) (f b) (g a) (g b)
 
 -- of a sum of columns it is the sum of what it makes of them
 pub additive-sum : (g : ℕ → ℕ) → Additive g → (cs : List ℕ) (w : Word) → g (columnSum cs w) ≡ columnSum (map g cs) w

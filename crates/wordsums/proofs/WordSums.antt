@@ -3,7 +3,7 @@
 use mathlib.Core.Path.{_≡_, refl, sym, ap, ap₂, _∙_, subst, subst₂}
 use mathlib.Core.Bool.{Bool, true, false}
 use mathlib.Core.List.{List, [], _∷_, _++_}
-use Prim.Native.Nat.{ℕ, zero, suc, _+_, _*_, _/_, _%_, _^_, _≤_, _<_}
+use Prim.Native.Nat.{ℕ, zero, suc, _+_, _*_, _/_, _%_, _^_, _<_}
 use native.Mathlib.Omega.{arith}
 use lib.Bits.{bitAnd, bitXor}
 use lib.Dec.{T, eqb}
@@ -12,6 +12,7 @@ use Rattle.gf2.specs.Word.{Word, digits}
 use Rattle.gf2.specs.Check.{columnSum}
 use Rattle.gf2.proofs.Digits.{length-digits}
 use Rattle.gf2.proofs.Hamming.{columnSum-append}
+use Rattle.register.proofs.TableRule.{length-upFrom}
 use Rattle.linecode.specs.Places.{hammingPlaces}
 use Rattle.linecode.specs.Code.{positions, hammingColumns, upFrom}
 use Rattle.linecode.proofs.Positions.{length-positions}
@@ -131,10 +132,6 @@ fiveSum p =
     (bitXor (columnsOf (replicate 64 64) (getD p 1 0))
     (bitXor (columnsOf (replicate 64 128) (getD p 2 0))
     (bitXor (columnsOf (replicate 64 256) (getD p 3 0)) (columnsOf (replicate 64 512) (getD p 4 0)))))
-
-length-upFrom : (i k : ℕ) → length (upFrom i k) ≡ k
-length-upFrom i zero = refl
-length-upFrom i (suc k) = ap suc (length-upFrom (suc i) k)
 
 five-sum : (p : List ℕ)
     → columnSum fiveColumns (digits 64 (getD p 0 0) ++ (digits 64 (getD p 1 0) ++ (digits 64 (getD p 2 0) ++ (digits 64 (getD p 3 0) ++ digits 64 (getD p 4 0)))))

@@ -15,7 +15,7 @@ pub fn read_in_order(found: &Line) -> (Line, u8) {
     // "When a line is accessed, the CRC associated with the line will detect
     // possible errors."
     if crc_matches(found) {
-        return deemed_right(found, found);
+        return deemed_non_faulty(found, found);
     }
     // "once we find a CRC error, we first try the ECC-1-based repair for the line"
     let flipped = corrector(found);
@@ -23,7 +23,7 @@ pub fn read_in_order(found: &Line) -> (Line, u8) {
     // data value. If the CRC matches with the stored CRC, we deem the line to be
     // corrected successfully." Where nothing was flipped, it matches no more than before.
     if crc_matches(&flipped) {
-        return deemed_right(found, &flipped);
+        return deemed_non_faulty(found, &flipped);
     }
     // "even after correction using ECC-1, the CRC will continue to deem the line to
     // be faulty": it is kept as found.
@@ -64,7 +64,7 @@ fn corrector(found: &Line) -> Line {
 
 /// A line whose CRC matches: data and CRC as they are, and "then compute the ECC over
 /// CRC and data" (III-E). The mark, by request Q-1, tells whether that is the line found.
-fn deemed_right(found: &Line, right: &Line) -> (Line, u8) {
+fn deemed_non_faulty(found: &Line, right: &Line) -> (Line, u8) {
     let mut read = *right;
     let (protected, hamming) = read.split_at_mut(PROTECTED_PLACES);
     hamming.copy_from_slice(&LineCode::store().hamming().bits(protected));

@@ -41,7 +41,7 @@ fn readings_worked_out_by_hand() {
     assert_eq!(read(&found), due);
     seen.check([found], read);
     println!("by hand: {seen:?}");
-    // Six written lines, each hurt in 26 ways, and the line of ones.
+    // Six written lines, each in 26 cases, and the line of ones.
     assert_eq!(seen.counts(), [6, 30, 24, 36, 31, 30]);
 }
 

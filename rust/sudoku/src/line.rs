@@ -46,7 +46,8 @@ impl Read {
 }
 
 /// Reads one line alone: one damaged bit is mended, and so is any damage in the
-/// ten Hamming bits alone.
+/// ten Hamming bits alone; with any other two to six damaged bits the line is
+/// faulty.
 ///
 /// ```
 /// use sudoku::{Mark, read_line, write_line};

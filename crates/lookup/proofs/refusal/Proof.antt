@@ -2,7 +2,8 @@
 use native.Mathlib.Omega.{arith}
 use borrow.Author.Needs.{needs}
 use mathlib.Core.Path.{sym, _∙_}
-use Rattle.repair.proofs.Refusing.{repair-passes, few}
+use Rattle.rectangle.proofs.Area.{area}
+use Rattle.repair.proofs.Refusing.{repair-passes}
 use Rattle.lookup.proofs.Refusing.{refused-by-repair, refused-line, refused-number, nothing-refused}
 use Rattle.lookup.proofs.refusal.Statement.{statement}
 use Rattle.lookup.proofs.refusal.Tie as tie
@@ -19,7 +20,7 @@ returns-2 c = refused-line _ _ _ _ _ _ _ _ _ (c .before .before .refusal .ensure
 mul-if3 : tie.Need-mul-if3
 mul-if3 c =
     let p = repair-passes _ _ _ _ _ _ _ _ _ (sym (c .before .before .refusal .ensures) ∙ c .before .if1 .left) in
-    omega (arith, few _ _ (p .sizes .sides))
+    omega (arith, area _ _ (p .sizes .sides))
 
 returns-3 : tie.Need-returns-3
 returns-3 c = refused-number _ _ _ _ _ _ _ _ _ (c .before .before .before .refusal .ensures) (c .before .before .if1 .left) (c .before .if2 .left) (c .if3 .taken)

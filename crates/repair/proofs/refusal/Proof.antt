@@ -3,7 +3,8 @@ use native.Mathlib.Omega.{arith}
 use borrow.Author.Needs.{needs}
 use Rattle.rectangle.proofs.Groups.{sides}
 use Rattle.rectangle.proofs.Refusing.{SizesPass, sizes-passed}
-use Rattle.repair.proofs.Refusing.{refused-sizes, refused-rows, refused-columns, refused-out, refused-marks, none-refused, few}
+use Rattle.rectangle.proofs.Area.{area}
+use Rattle.repair.proofs.Refusing.{refused-sizes, refused-rows, refused-columns, refused-out, refused-marks, none-refused}
 use Rattle.repair.proofs.refusal.Statement.{statement}
 use Rattle.repair.proofs.refusal.Tie as tie
 
@@ -34,16 +35,16 @@ returns-3 : tie.Need-returns-3
 returns-3 c = refused-columns _ _ _ _ _ _ _ _ _ (sizes (c .before .before)) (c .before .if2 .left) (λ e. omega (arith, c .if3 .taken))
 
 mul-if4 : tie.Need-mul-if4
-mul-if4 c = omega (arith, few _ _ (sizes (c .before .before) .sides))
+mul-if4 c = omega (arith, area _ _ (sizes (c .before .before) .sides))
 
 mul-if4-2 : tie.Need-mul-if4-2
-mul-if4-2 c = omega (arith, few _ _ (sizes (c .before .before) .sides))
+mul-if4-2 c = omega (arith, area _ _ (sizes (c .before .before) .sides))
 
 returns-4 : tie.Need-returns-4
 returns-4 c = refused-out _ _ _ _ _ _ _ _ _ (sizes (c .before .before .before)) (c .before .before .if2 .left) (c .before .if3 .left) (λ e. omega (arith, c .if4 .taken))
 
 mul-if5 : tie.Need-mul-if5
-mul-if5 c = omega (arith, few _ _ (sizes (c .before .before .before) .sides))
+mul-if5 c = omega (arith, area _ _ (sizes (c .before .before .before) .sides))
 
 returns-5 : tie.Need-returns-5
 returns-5 c =

@@ -1,14 +1,13 @@
 -- `sweep::sums_in` meets its contract.
 use native.Mathlib.Omega.{arith}
 use mathlib.Core.Path.{_≡_, sym, ap, _∙_}
-use Prim.Native.Nat.{ℕ, _<_}
-use Rattle.gf2.specs.Word.{Word}
+use Prim.Native.Nat.{ℕ}
 use Rattle.gf2.specs.Check.{columnSum}
 use Rattle.register.specs.Slices.{after}
 use lib.Dec.{eqb}
 use Rattle.linecode.specs.Places.{places}
 use Rattle.linecode.specs.Code.{positions, protected}
-use Rattle.linecode.proofs.Positions.{position-sum-lt}
+use Rattle.linecode.proofs.Positions.{sum-lt}
 use Rattle.linecode.proofs.Line.{length-places}
 use Rattle.linecode.proofs.CrcRegister.{crc-after}
 use Rattle.paper_order.specs.PaperOrder.{crcMatches}
@@ -84,9 +83,6 @@ summed c =
     stored (at-carried .carried .ensures .1)
 
 -- ten bits fit the result
-sum-lt : (r : ℕ) (w : Word) → r ≡ columnSum positions w → r < 1024
-sum-lt r w e = let h = position-sum-lt w in omega arith
-
 cast-positions : tie.Need-cast-positions
 cast-positions c = omega (arith, sum-lt _ _ (summed c))
 

@@ -1,13 +1,12 @@
 -- `wordsums::sum_with` meets its contract: the words hold the bits of the data.
 use native.Mathlib.Omega.{arith}
 use borrow.Author.Needs.{needs}
-use mathlib.Core.Path.{_≡_, refl, ap, _∙_}
-use Prim.Native.Nat.{ℕ, _<_}
-use Rattle.gf2.specs.Word.{Word, digits}
+use mathlib.Core.Path.{refl, ap, _∙_}
+use Rattle.gf2.specs.Word.{digits}
 use Rattle.gf2.specs.Check.{columnSum}
 use Rattle.linecode.specs.Code.{positions}
 use Rattle.linecode.proofs.Bytes.{array-length}
-use Rattle.linecode.proofs.Positions.{position-sum-lt}
+use Rattle.linecode.proofs.Positions.{sum-lt}
 use Rattle.linecode.proofs.WordBytes.{word-before}
 use Rattle.wordsums.proofs.sum_with.Statement.{statement}
 use Rattle.wordsums.proofs.sum_with.Tie as tie
@@ -40,9 +39,6 @@ hamming-bits-requires : tie.Need-hamming-bits-requires
 hamming-bits-requires c κs = search needs
 
 -- ten bits fit the result
-sum-lt : (r : ℕ) (w : Word) → r ≡ columnSum positions w → r < 1024
-sum-lt r w e = let h = position-sum-lt w in omega arith
-
 cast-result : tie.Need-cast-result
 cast-result c = omega (arith, sum-lt _ _ (c .hamming-bits .ensures))
 
