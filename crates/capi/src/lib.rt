@@ -1,7 +1,13 @@
 // The C interface: the entry points over slices and numbers, for programs in other languages to link.
-// In C a slice is a pointer and a length; the mark, the passes, the number, the step and the order are each returned through a pointer.
+// In C a slice is a pointer and a length; the mark, the passes, the number, the step and the order are each returned through a pointer, and
+// so are the eight numbers of a file's layout and of a check, which a C struct of eight fields holds.
 use linecode::place;
+use report::check;
+use report::numbers as figures;
 use single::alone;
+use storefile::header;
+use storefile::layout as places;
+use storefile::opening;
 use wear::numbers;
 ghost use mathlib.Core.Path.{_≡_};
 ghost use lib.ListN.{length};
@@ -11,6 +17,11 @@ ghost use Rattle.rectangle.specs.Repair.{StoreRepaired, repairStore};
 ghost use Rattle.lookup.specs.Lookup.{OneRead, readOne};
 ghost use Rattle.forecast.specs.Forecast.{Forecast, forecast};
 ghost use Rattle.tour.specs.Numbers.{NumbersAdded, addNumbers, compareNumbers};
+ghost use Rattle.storefile.specs.Header.{HeaderWritten, writeHeader};
+ghost use Rattle.storefile.specs.Opening.{bytesNeeded};
+ghost use Rattle.storefile.specs.Layout.{layoutIn};
+ghost use Rattle.report.specs.Check.{lent};
+ghost use Rattle.report.specs.Numbers.{FileChecked, checkFile};
 ghost use Rattle.capi.specs.Single.{Written, writeLine, Answered, readLine};
 
 // A line put into a buffer of its length. The data and the six bytes after them go apart: a processor waits where a load takes in bytes of
@@ -254,4 +265,57 @@ pub extern "C" fn sudoku_wear_compare(a: &[u64], b: &[u64], order: &mut u32) -> 
     let compared = numbers::compare_numbers(a, b);
     *order = compared.order;
     compared.answer
+}
+
+// A store file opened: its rows and columns, and the offset and length of lines, row table and column table.
+#[no_mangle]
+pub extern "C" fn sudoku_open_file(file: &[u8], layout: &mut [u64; 8]) -> u32
+    ensures { λ r. ⌜ record { answer = r; numbers = now (layout .exit) } ≡ layoutIn (now (file .entry)) ⌝ }
+{
+    let found = places::layout_of(file);
+    let numbers = found.numbers;
+    *layout = numbers;
+    found.answer
+}
+
+// The header of a store file of given rows and columns.
+#[no_mangle]
+pub extern "C" fn sudoku_write_header(rows: usize, columns: usize, header: &mut [u8]) -> u32
+    ensures { λ r. ⌜ _≡_ {A = HeaderWritten}
+        (record { answer = r; out = now (header .exit) })
+        (writeHeader rows columns (now (header .entry))) ⌝ }
+{
+    header::write_header(rows, columns, header)
+}
+
+// How many bytes of a file a reader needs that has its first 28.
+#[no_mangle]
+pub extern "C" fn sudoku_bytes_needed(start: &[u8]) -> usize
+    ensures { λ r. ⌜ r ≡ bytesNeeded 512 (now (start .entry)) ⌝ }
+{
+    opening::bytes_needed(512, start)
+}
+
+// A check of a whole store file: its store repaired into the four buffers, and the report's numbers.
+#[no_mangle]
+pub extern "C" fn sudoku_check_file(
+    file: &[u8],
+    out: &mut [u8],
+    marks: &mut [u8],
+    row_out: &mut [u8],
+    column_out: &mut [u8],
+    found: &mut [u64; 8],
+) -> u32
+    ensures { λ r. ⌜ _≡_ {A = FileChecked}
+        (record {
+          answer = r;
+          numbers = now (found .exit);
+          buffers = lent (now (out .exit)) (now (marks .exit)) (now («row_out» .exit)) (now («column_out» .exit));
+        })
+        (checkFile (now (file .entry))
+        (lent (now (out .entry)) (now (marks .entry)) (now («row_out» .entry)) (now («column_out» .entry)))) ⌝ }
+{
+    let checked = check::check(file, out, marks, row_out, column_out);
+    *found = figures::numbers(checked);
+    checked.answer
 }

@@ -1,13 +1,13 @@
--- Checks that are turned back write nothing and return zeros; those that are not count every line; 9 is given by none.
-use mathlib.Core.Path.{_≡_, refl, sym, _∙_, subst}
+-- Checks that are turned back write nothing and return zeros; those that are not count every line by its mark; 9 is given by none.
+use mathlib.Core.Path.{_≡_, refl, sym, ap, _∙_, subst}
 use mathlib.Core.Logic.{_⊎_, inl, inr}
 use mathlib.Core.Bool.{true, false, not, true≢false}
-use mathlib.Core.List.{List, [], _∷_}
+use mathlib.Core.List.{List, [], _∷_, map}
 use Prim.Native.Nat.{ℕ, _*_, _≤_, _<_}
 use native.Mathlib.Omega.{arith}
 use borrow.Author.Tests.{not-true}
 use lib.Dec.{eqb}
-use lib.ListN.{length, getD}
+use lib.ListN.{length, take, drop, getD, replicate}
 use Rattle.scheme.specs.Demand3.{_∈_}
 use Rattle.rectangle.specs.Store.{lineLayer}
 use Rattle.rectangle.specs.Refusals.{repairRefusal, repairAnswers}
@@ -15,10 +15,11 @@ use Rattle.rectangle.specs.Repair.{Buffers, StoreRepaired, usedGroups, repaired
 use Rattle.rectangle.proofs.Runs.{zero-or-not, answer-hands-over, marks-handed, refusal-hands-nothing, repair-runs, repair-refused, repair-answers}
 use Rattle.rectangle.proofs.Tests.{every-at, not-among, either-way}
 use Rattle.storefile.specs.Opening.{rowsIn, columnsIn, openRefusal, opened}
-use Rattle.results.specs.Marks.{countsOf, total}
+use Rattle.results.specs.Marks.{countOf, countsOf, noCounts, total}
 use Rattle.report.specs.Report.{ReportWritten, reportBytes, writeReport}
 use Rattle.report.specs.Check.{leftBy, StoreChecked, refusedWith, repairOpened, counted, checkStore}
-use Rattle.report.specs.Promises.{CheckCountsLines, CheckRefusalsWriteNothing, NineNotGiven}
+use Rattle.report.specs.Numbers.{checkNumbers, checkFile}
+use Rattle.report.specs.Promises.{CheckCountsLines, CheckRefusalsWriteNothing, NumbersCountMarks, NineNotGiven}
 use Rattle.report.specs.declared.report.Checked.{Checked}
 use Rattle.storefile.proofs.Answers as Opening
 use Rattle.storefile.proofs.Answers.{openAnswers, opening-answers}
@@ -66,7 +67,8 @@ module _ (rows columns : ℕ) (lines rowTable columnTable : List ℕ) (b : Buffe
 
 -- ---- a check is turned back, or counts every line
 data Checks (b : Buffers) (s : StoreChecked) : Type 0 where
-  over : handsOver (s .checked .answer) ≡ true → total (s .checked .counts) ≡ s .checked .rows * s .checked .columns → Checks b s
+  over : handsOver (s .checked .answer) ≡ true → total (s .checked .counts) ≡ s .checked .rows * s .checked .columns
+      → s .checked .counts ≡ countsOf (s .buffers .marks) → Checks b s
   none : handsOver (s .checked .answer) ≡ false → s .checked ≡ refusedWith (s .checked .answer) → s .buffers ≡ b → Checks b s
 
 module _ (limit : ℕ) (file : List ℕ) (b : Buffers) where
@@ -84,7 +86,7 @@ module _ (limit : ℕ) (file : List ℕ) (b : Buffers) where
 
     checks-opened : Repairing (rows * columns) b r → Checks b (checkStore limit file b)
     checks-opened (over h e f) =
-        subst (Checks b) (check-counted limit file b _ is refl r refl h (countsOf (r .marks)) refl) (over h (counts-add-up (r .marks) .1 f ∙ e))
+        subst (Checks b) (check-counted limit file b _ is refl r refl h (countsOf (r .marks)) refl) (over h (counts-add-up (r .marks) .1 f ∙ e) refl)
     checks-opened (none h e) =
         subst (Checks b) (check-turned-back limit file b _ is refl r refl h (refusedWith (r .answer)) refl) (turned (r .answer) (leftBy r) h e)
 
@@ -104,7 +106,7 @@ check-counts-lines limit file b h = go (checks limit file b)
     go : Checks b (checkStore limit file b)
         → total (checkStore limit file b .checked .counts)
         ≡ checkStore limit file b .checked .rows * checkStore limit file b .checked .columns
-    go (over i e) = e
+    go (over i e n) = e
     go (none i e f) = absurd (true≢false (sym h ∙ i))
 
 pub check-refusals-write-nothing : CheckRefusalsWriteNothing
@@ -112,8 +114,34 @@ check-refusals-write-nothing limit file b h = go (checks limit file b)
   where
     go : Checks b (checkStore limit file b)
         → (checkStore limit file b .checked ≡ refusedWith (checkStore limit file b .checked .answer)) × (checkStore limit file b .buffers ≡ b)
-    go (over i e) = absurd (true≢false (sym i ∙ h))
+    go (over i e n) = absurd (true≢false (sym i ∙ h))
     go (none i e f) = (e, f)
+
+-- ---- the report's numbers
+marks-counted : (c : Checked) (marks : List ℕ) → c .counts ≡ countsOf marks
+    → take 5 (drop 2 (checkNumbers c)) ≡ map (λ mark. countOf mark marks) (0 ∷ 1 ∷ 2 ∷ 3 ∷ 4 ∷ [])
+unfolding checkNumbers countsOf
+marks-counted c marks e = rw e
+
+all-zeros : (n : ℕ) → checkNumbers (refusedWith n) ≡ replicate 8 0
+unfolding checkNumbers refusedWith noCounts
+all-zeros n = refl
+
+pub numbers-count-marks : NumbersCountMarks
+unfolding checkFile
+numbers-count-marks file b =
+    record {
+      counts = λ h. counted-of h (checks 512 file b);
+      refused = λ h.
+          let nothing = check-refusals-write-nothing 512 file b h in
+          (ap checkNumbers (nothing .0) ∙ all-zeros _, nothing .1);
+    }
+  where
+    counted-of : handsOver (checkStore 512 file b .checked .answer) ≡ true → Checks b (checkStore 512 file b)
+        → take 5 (drop 2 (checkNumbers (checkStore 512 file b .checked)))
+        ≡ map (λ mark. countOf mark (checkStore 512 file b .buffers .marks)) (0 ∷ 1 ∷ 2 ∷ 3 ∷ 4 ∷ [])
+    counted-of h (over i e n) = marks-counted _ _ n
+    counted-of h (none i e f) = absurd (true≢false (sym h ∙ i))
 
 -- ---- request Q-2
 pub nine-not-given : NineNotGiven

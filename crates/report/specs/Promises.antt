@@ -1,15 +1,16 @@
 -- What is promised of a check and the report beyond the contracts, each sentence above its statement; the proofs stand in proofs/.
 use mathlib.Core.Path.{_≡_}
 use mathlib.Core.Bool.{true, false}
-use mathlib.Core.List.{List, [], _∷_}
+use mathlib.Core.List.{List, [], _∷_, map}
 use Prim.Native.Nat.{ℕ, _+_, _-_, _*_, _≤_, _<_}
-use lib.ListN.{length, take, getD}
+use lib.ListN.{length, take, drop, getD, replicate}
 use Rattle.rectangle.specs.Repair.{Buffers, handsOver}
 use Rattle.storefile.specs.Header.{headerBytes}
 use Rattle.storefile.specs.Opening.{bytesNeeded}
-use Rattle.results.specs.Marks.{total}
+use Rattle.results.specs.Marks.{countOf, total}
 use Rattle.report.specs.Report.{decimal, writeReport}
 use Rattle.report.specs.Check.{refusedWith, checkStore}
+use Rattle.report.specs.Numbers.{checkFile}
 use Rattle.report.specs.declared.report.Checked.{Checked}
 
 -- ---- a reader that stops after the bytes it needs gives the same answer: those that follow change nothing
@@ -32,6 +33,17 @@ CheckRefusalsWriteNothing =
     (limit : ℕ) (file : List ℕ) (b : Buffers)
     → let r = checkStore limit file b in
     handsOver (r .checked .answer) ≡ false → (r .checked ≡ refusedWith (r .checked .answer)) × (r .buffers ≡ b)
+
+-- ---- "a check of a whole file with the report's numbers": the third to the seventh count the marks 0 to 4 as they are handed over; where
+-- nothing is handed over, all eight are 0 and no buffer is written
+pub record FileChecks (file : List ℕ) (b : Buffers) : Type 0 where
+  pub counts : handsOver (checkFile file b .answer) ≡ true
+      → take 5 (drop 2 (checkFile file b .numbers)) ≡ map (λ mark. countOf mark (checkFile file b .buffers .marks)) (0 ∷ 1 ∷ 2 ∷ 3 ∷ 4 ∷ [])
+  pub refused : handsOver (checkFile file b .answer) ≡ false
+      → (checkFile file b .numbers ≡ replicate 8 0) × (checkFile file b .buffers ≡ b)
+
+abbrev pub NumbersCountMarks : Type 0
+NumbersCountMarks = (file : List ℕ) (b : Buffers) → FileChecks file b
 
 -- ---- request Q-2: "9 is no longer given.", neither by a check nor by writing the report
 pub record NineNotGiven : Type 0 where

@@ -9,3 +9,4 @@ pub mod Needed
 pub mod Covering
 pub mod Limit
 pub mod Answers
+pub mod Layouts

@@ -5,11 +5,12 @@ use mathlib.Core.Logic.{_⊎_, inl, inr}
 use mathlib.Core.List.{List}
 use Prim.Native.Nat.{ℕ, suc, _+_, _≤_, _<_}
 use native.Mathlib.Nat.{mul-le-mul}
+use native.Mathlib.Decide.{decLe}
 use native.Mathlib.Omega.{arith}
 use borrow.Author.Tests.{eq-eqb, ne-eqb, le-leb, leb-true, eqb-true}
 use lib.Dec.{eqb, leb}
 use lib.ListN.{length, take, drop, take-append-drop}
-use lib.Seq.{take-take, length-take-le}
+use lib.Seq.{take-all, take-take, length-take-le}
 use Rattle.linecode.specs.Places.{lineBytes}
 use Rattle.rectangle.specs.Refusals.{sidesFit}
 use Rattle.rectangle.proofs.Groups.{sides}
@@ -18,6 +19,7 @@ use Rattle.rectangle.proofs.Tests.{passed}
 use Rattle.storefile.specs.Bytes.{numberOf, numberAt}
 use Rattle.storefile.specs.Header.{headerBytes, linesPart, rowTablePart, columnTablePart, fileLength}
 use Rattle.storefile.specs.Opening.{rowsIn, columnsIn, sidesWithin, entryIs, entriesFit, contentsFit, openRefusal, opened, bytesNeeded}
+use Rattle.storefile.specs.Promises.{ReaderNeedsNoMore}
 use Rattle.storefile.specs.declared.header.Part.{Part}
 use Rattle.storefile.specs.declared.opening.Opened.{Opened}
 use Rattle.storefile.proofs.Openings.{sides-within, opened-accepted, opened-refused}
@@ -235,3 +237,20 @@ module _ (limit : ℕ) (file : List ℕ) (longer : bytesNeeded limit (take 28 fi
             first = length-told limit start read (omega (arith, length-read, least)) start-read ea eb (λ z. omega (arith, length-read, whole ea eb ee, z));
             second = length-told limit start file long refl ea eb (λ z. omega (arith, longer, whole ea eb ee, z));
           }
+
+-- ---- a reader that stops there opens the file as if it had read the whole
+pub reader-needs-no-more : ReaderNeedsNoMore
+unfolding headerBytes
+reader-needs-no-more limit file = go (decLe (length file) (bytesNeeded limit (take 28 file)))
+  where
+    refused-as : ℕ → Opened
+    refused-as n = record { answer = n; rows = 0; columns = 0 }
+
+    is : (l : List ℕ) (n : ℕ) → (n ≡ 0 → ⊥) → openRefusal limit l ≡ n → opened limit l ≡ refused-as n
+    is l n d e = opened-refused limit l (λ z. d (sym e ∙ z)) ∙ ap refused-as e
+
+    go : Dec (length file ≤ bytesNeeded limit (take 28 file)) → opened limit (take (bytesNeeded limit (take 28 file)) file) ≡ opened limit file
+    go (yes l) = ap (opened limit) (take-all (bytesNeeded limit (take 28 file)) file l)
+    go (no l) =
+        let r = both-refused limit file (omega arith) in
+        is _ (r .answer) (r .some) (r .first) ∙ sym (is file (r .answer) (r .some) (r .second))

@@ -14,7 +14,7 @@ use Rattle.rectangle.proofs.Tests.{passed}
 use Rattle.rectangle.proofs.Runs.{zero-or-not}
 use Rattle.storefile.specs.Bytes.{numberAt}
 use Rattle.storefile.specs.Header.{headerBytes, linesPart, rowTablePart, columnTablePart, fileLength, bytesIn}
-use Rattle.storefile.specs.Opening.{rowsIn, columnsIn, sidesWithin, entryIs, entriesFit, contentsFit, openRefusal, opened, body}
+use Rattle.storefile.specs.Opening.{rowsIn, columnsIn, sidesWithin, entryIs, entriesFit, contentsFit, openRefusal, opened}
 use Rattle.storefile.specs.declared.header.Part.{Part}
 use Rattle.storefile.specs.declared.opening.Opened.{Opened}
 use Rattle.rectangle.proofs.Groups.{sides}
@@ -149,13 +149,7 @@ opened-small limit file o is = go (outcome limit file o is)
         let range = sides (rowsIn file) (columnsIn file) (h .sides) in
         (omega (arith, range .rowsHigh), omega (arith, range .columnsHigh))
 
--- ---- the bodies
-pub body-is : (part : ℕ → ℕ → Part) (file bytes : List ℕ) (o : Opened) (p : Part) → o ≡ opened 512 file
-    → p ≡ part (o .rows) (o .columns) → bytes ≡ bytesIn file p → bytes ≡ body part file
-unfolding body
-body-is part file bytes o p e f g =
-    g ∙ ap (bytesIn file) (f ∙ ap (λ (x : Opened). part (x .rows) (x .columns)) e)
-
+-- ---- a part of a file
 module _ (file : List ℕ) (p : Part) where
   abbrev pub rest : List ℕ
   rest = take (length file - p .offset) (drop (p .offset) file)

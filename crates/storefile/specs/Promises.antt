@@ -4,8 +4,9 @@ use mathlib.Core.List.{List, [], _++_}
 use Prim.Native.Nat.{ℕ, _*_, _≤_}
 use lib.ListN.{length, take}
 use Rattle.linecode.specs.Places.{lineBytes}
-use Rattle.storefile.specs.Header.{headerBytes, linesPart, rowTablePart, columnTablePart, writeHeader}
-use Rattle.storefile.specs.Opening.{rowsIn, columnsIn, opened, body}
+use Rattle.storefile.specs.Header.{headerBytes, linesPart, rowTablePart, columnTablePart, bytesIn, writeHeader}
+use Rattle.storefile.specs.Opening.{rowsIn, columnsIn, opened, body, bytesNeeded}
+use Rattle.storefile.specs.Layout.{partAt, layoutIn}
 
 -- ---- "what the header writer writes, opening accepts with the same rows and columns", and finds the bodies that follow it
 pub record FileMade (rows columns : ℕ) (out lines rowTable columnTable : List ℕ) : Type 0 where
@@ -44,6 +45,20 @@ pub record NoBodies (file : List ℕ) : Type 0 where
 
 abbrev pub RefusedFileEmpty : Type 0
 RefusedFileEmpty = (file : List ℕ) → (opened 512 file .answer ≡ 0 → ⊥) → NoBodies file
+
+-- ---- "the three parts by offset and length": the bytes that the numbers of a layout lead to are the bodies
+pub record LayoutFinds (file : List ℕ) : Type 0 where
+  pub lines : bytesIn file (partAt (layoutIn file .numbers) 2) ≡ body linesPart file
+  pub rowTable : bytesIn file (partAt (layoutIn file .numbers) 4) ≡ body rowTablePart file
+  pub columnTable : bytesIn file (partAt (layoutIn file .numbers) 6) ≡ body columnTablePart file
+
+abbrev pub LayoutFindsBodies : Type 0
+LayoutFindsBodies = (file : List ℕ) → LayoutFinds file
+
+-- ---- a reader that stops after the bytes it needs opens the file as if it had read the whole
+abbrev pub ReaderNeedsNoMore : Type 0
+ReaderNeedsNoMore =
+    (limit : ℕ) (file : List ℕ) → opened limit (take (bytesNeeded limit (take headerBytes file)) file) ≡ opened limit file
 
 -- ---- "3. In the program only"
 abbrev pub ThreeInTheProgramOnly : Type 0

@@ -1,9 +1,9 @@
-// Opening a file of any bytes and any length, and its bodies as parts of it.
+// Opening a file of any bytes and any length, and a part of it.
 ghost use mathlib.Core.Path.{_≡_};
 ghost use Prim.Native.Nat.{_+_, _≤_};
 ghost use lib.ListN.{length};
-ghost use Rattle.storefile.specs.Header.{linesPart, rowTablePart, columnTablePart, bytesIn};
-ghost use Rattle.storefile.specs.Opening.{entryIs, entriesFit, contentsFit, opened, body, bytesNeeded};
+ghost use Rattle.storefile.specs.Header.{bytesIn};
+ghost use Rattle.storefile.specs.Opening.{entryIs, entriesFit, contentsFit, opened, bytesNeeded};
 use crate::bytes;
 use crate::header;
 use crate::header::Part;
@@ -131,28 +131,4 @@ pub fn part_of(file: &[u8], p: Part) -> &[u8]
         return rest;
     }
     &rest[..size]
-}
-
-// The lines of a file that opens, and nothing of another.
-pub fn lines(file: &[u8]) -> &[u8]
-    ensures { λ r. ⌜ now r ≡ body linesPart (now (file .entry)) ⌝ }
-{
-    let o = open(file);
-    part_of(file, header::lines_part(o.rows, o.columns))
-}
-
-// The row table of a file that opens, and nothing of another.
-pub fn row_table(file: &[u8]) -> &[u8]
-    ensures { λ r. ⌜ now r ≡ body rowTablePart (now (file .entry)) ⌝ }
-{
-    let o = open(file);
-    part_of(file, header::row_table_part(o.rows, o.columns))
-}
-
-// The column table of a file that opens, and nothing of another.
-pub fn column_table(file: &[u8]) -> &[u8]
-    ensures { λ r. ⌜ now r ≡ body columnTablePart (now (file .entry)) ⌝ }
-{
-    let o = open(file);
-    part_of(file, header::column_table_part(o.rows, o.columns))
 }
