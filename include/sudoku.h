@@ -1,28 +1,33 @@
 /*
  * The caption store: lines of 70 bytes in a rectangle with parity lines, after the SuDoku scheme.
  *
- * Link with libcapi.a, which `rt staticlib capi` writes to target/staticlib (x86-64 Linux). Each function below is proved to
- * give, for any input, the answer, the values and every byte of every writable buffer that the store's rules ask for.
+ * Link with libsudoku.a, which `bin/install PREFIX` puts into PREFIX/lib, or with the same archive in the repository, libcapi.a, which
+ * `rt staticlib capi` writes to target/staticlib (x86-64 Linux). Each of its functions, the first thirteen below, is proved to give,
+ * for any input, the answer, the values and every byte of every writable buffer that the store's rules ask for. The functions after
+ * them, on a struct sudoku_store, only hand over to these; they and the words for answers and marks are compiled with the caller, and
+ * are tested.
  *
  * A line holds 64 bytes of data, a check (BCH, 31 bits) and ten bits that find one damaged bit (Hamming). Seven bits of it are
  * spare: bit 7 of byte 67 and bits 2 to 7 of byte 69. They are written 0 and ignored when read. Rows and columns are each 2 to
  * 512. Line n has row n / columns and column n % columns, and stands at byte 70 * n. The row table holds a parity line for each
- * row, the column table one for each column: the exclusive or of that row's or column's lines.
+ * row, the column table one for each column: the exclusive or of that row's or column's lines. A store file is a header of 28 bytes,
+ * which names the sides and the three parts, and then lines, row table and column table without gaps.
  *
  * What a caller owes, since no function can test it:
  * - The length after a pointer is the buffer's true length: so many bytes, or numbers of a wear report, may be read, and written
  *   where they are not const. Any true length may be handed in; one that the call cannot use is refused. A null pointer goes with
- *   length 0 only.
- * - `mark`, `passes`, `number`, `step` and `order` are not null. They are returned values: every call sets them, to 0 on refusals but
- *   for three, below.
+ *   length 0 only. Where a call takes a struct sudoku_store, no length is handed in: its buffers have the lengths that its sides ask
+ *   for, and the others those that the call names.
+ * - `mark`, `passes`, `number`, `step`, `order`, `layout` and `check` are not null. They are returned values: every call sets them, to 0
+ *   on refusals but for three, below. No pointer to a struct sudoku_store or sudoku_one is null either.
  * - Writable buffers, these returned values among them, overlap nothing else that is handed in: `row_out` is not `row_table`, nor
  *   `column_out` `column_table`, which repair reads to the end; `line` is no line of `lines` or `out`; the `marks` of a forecast are
- *   not its `faulty`. Buffers that are only read may overlap each other.
+ *   not its `faulty`; the store that a repair writes is not the one that it reads. Buffers that are only read may overlap each other.
  * - Callers of sudoku_change_line and sudoku_repair are compiled with this header. Earlier ones had fewer or other parameters: a
  *   call compiled with one of them still links, and then bytes are written to places that the caller never named.
- * - Repair needs less than 48 kB of stack (about 32 kB of it a table), and so does sudoku_read_one, which may run it; making tables
- *   needs about 110 kB, whatever the size of the rectangle; sudoku_forecast less than 4 kB (about 2 kB of it counts of faulty lines);
- *   the other calls less than 2 kB.
+ * - Repair needs less than 48 kB of stack (about 32 kB of it a table), and so do sudoku_read_one, which may run it, and
+ *   sudoku_check_file, which does; making tables needs about 110 kB, whatever the size of the rectangle; sudoku_forecast less than
+ *   4 kB (about 2 kB of it counts of faulty lines); the other calls less than 2 kB.
  *
  * What a caller should know:
  * - After a refusal (any answer but 0, 11 and 12) the buffers are as they were: what stands in `out`, `marks` or the tables written
@@ -47,38 +52,38 @@
  * - A wear report is ten numbers, and the empty report is ten zeros. sudoku_wear_add counts every result that it is handed, the same
  *   one again too: call it once for each repair. A refused repair has no result, and adding its answer is refused with 15. What
  *   sudoku_read_one leaves is no result either, but would be taken for one: its marks are zeros. So would the marks of a forecast. Add
- *   only what sudoku_repair gave.
+ *   only what sudoku_repair or sudoku_check_file gave.
  *
  * Calls keep no state and allocate nothing, so threads may call at once, each on writable buffers of its own.
  *
- * Example: a caption is stored, two of its bits are hurt, and repair brings it back.
+ * Example: a caption is stored in the bytes of a store file, two of its bits are hurt, and repair brings it back.
  *
  *     #include <stdio.h>
  *     #include <string.h>
  *     #include "sudoku.h"
  *
- *     enum { ROWS = 2, COLUMNS = 2, LINES = ROWS * COLUMNS };
+ *     enum { ROWS = 2, COLUMNS = 2 };
  *
  *     int main(void)
  *     {
- *         static uint8_t lines[LINES * SUDOKU_LINE_BYTES], out[LINES * SUDOKU_LINE_BYTES], marks[LINES];
- *         static uint8_t rows[ROWS * SUDOKU_LINE_BYTES], columns[COLUMNS * SUDOKU_LINE_BYTES];
- *         static uint8_t row_out[ROWS * SUDOKU_LINE_BYTES], column_out[COLUMNS * SUDOKU_LINE_BYTES];
- *         uint8_t data[SUDOKU_DATA_BYTES] = "To be, or not to be";
+ *         static uint8_t file[SUDOKU_FILE_BYTES(ROWS, COLUMNS)], repaired[sizeof file], marks[SUDOKU_MARKS_BYTES(ROWS, COLUMNS)];
+ *         const uint8_t data[SUDOKU_DATA_BYTES] = "To be, or not to be";
+ *         struct sudoku_store store, out;
  *         uint64_t passes;
  *
- *         for (size_t n = 0; n < LINES; n++)
- *             if (sudoku_write_line(data, sizeof data, lines + n * SUDOKU_LINE_BYTES, SUDOKU_LINE_BYTES) != SUDOKU_DONE)
+ *         if (sudoku_store_create(file, sizeof file, ROWS, COLUMNS, &store) != SUDOKU_DONE
+ *             || sudoku_store_create(repaired, sizeof repaired, ROWS, COLUMNS, &out) != SUDOKU_DONE)
+ *             return 1;
+ *         for (size_t n = 0; n < sudoku_store_count(&store); n++)
+ *             if (sudoku_store_write(&store, n, data) != SUDOKU_DONE)
  *                 return 1;
- *         if (sudoku_make_tables(ROWS, COLUMNS, lines, sizeof lines, rows, sizeof rows, columns, sizeof columns) != SUDOKU_DONE)
+ *         if (sudoku_store_make_tables(&store) != SUDOKU_DONE)
  *             return 1;
- *         lines[3 * SUDOKU_LINE_BYTES] ^= 3;
- *         if (sudoku_repair(ROWS, COLUMNS, lines, sizeof lines, rows, sizeof rows, columns, sizeof columns,
- *                           out, sizeof out, marks, sizeof marks, row_out, sizeof row_out, column_out, sizeof column_out,
- *                           &passes) != SUDOKU_DONE)
+ *         sudoku_store_line(&store, 3)[0] ^= 3;
+ *         if (sudoku_store_repair(&store, &out, marks, &passes) != SUDOKU_DONE)
  *             return 1;
- *         printf("%s, mark %u\n", (const char *)out + 3 * SUDOKU_LINE_BYTES, (unsigned)marks[3]);
- *         return memcmp(out + 3 * SUDOKU_LINE_BYTES, data, sizeof data) == 0 ? 0 : 1;
+ *         printf("%s: %s\n", (const char *)sudoku_store_line(&out, 3), sudoku_mark_text(marks[3]));
+ *         return memcmp(sudoku_store_line(&out, 3), data, sizeof data) == 0 ? 0 : 1;
  *     }
  */
 #ifndef SUDOKU_H
@@ -91,10 +96,26 @@
 extern "C" {
 #endif
 
+#define SUDOKU_VERSION "0.1.0"
+#define SUDOKU_VERSION_MAJOR 0
+#define SUDOKU_VERSION_MINOR 1
+#define SUDOKU_VERSION_PATCH 0
+
 #define SUDOKU_DATA_BYTES 64
 #define SUDOKU_LINE_BYTES 70
 #define SUDOKU_LEAST_SIDE 2
 #define SUDOKU_GREATEST_SIDE 512
+#define SUDOKU_HEADER_BYTES 28
+
+/*
+ * The lengths that sides of 2 to 512 ask for: of all lines; of one table, with its own side; of the marks, or a forecast's list, with a
+ * byte for each line; and of a store file. They are of type size_t, and constants where the sides are: good for the sizes of arrays.
+ */
+#define SUDOKU_LINES_BYTES(rows, columns) (sizeof(uint8_t) * (rows) * (columns) * SUDOKU_LINE_BYTES)
+#define SUDOKU_TABLE_BYTES(side) (sizeof(uint8_t) * (side) * SUDOKU_LINE_BYTES)
+#define SUDOKU_MARKS_BYTES(rows, columns) (sizeof(uint8_t) * (rows) * (columns))
+#define SUDOKU_FILE_BYTES(rows, columns) \
+    (SUDOKU_HEADER_BYTES + SUDOKU_LINES_BYTES(rows, columns) + SUDOKU_TABLE_BYTES(rows) + SUDOKU_TABLE_BYTES(columns))
 
 /* A wear report: its numbers, the most stores that it counts, and the lines that a store in it may have. */
 #define SUDOKU_WEAR_NUMBERS 10
@@ -105,13 +126,15 @@ extern "C" {
 /*
  * Answers. A call gives the first that fits in this order; 0 if none does. All but 0, 11 and 12 are refusals: all buffers are as
  * they were, and a returned value is 0. Three differ: sudoku_read_line's 10, which gives the line as found and mark 4, and 13 and
- * 14, which give the number of a row or a column, counted from 0. With 11 and 12 everything is given as with 0. (Numbers 1, 3 and 4
- * are about store files and come from no call here. 9 is no longer given: 13 and 14 stand in its place, in a change alone, and are
- * tested after 8 and before 10. 15 is of wear reports alone.)
+ * 14, which give the number of a row or a column, counted from 0. With 11 and 12 everything is given as with 0. (Number 3 comes from
+ * no call here: the program storecheck gives it, which takes sides up to 16 alone. 9 is no longer given: 13 and 14 stand in its place,
+ * in a change alone, and are tested after 8 and before 10. 15 is of wear reports alone.)
  */
 enum sudoku_answer {
     SUDOKU_DONE = 0,           /* done */
+    SUDOKU_SHORT_FILE = 1,     /* the store file has fewer than 28 bytes */
     SUDOKU_SIDES = 2,          /* rows or columns lie outside 2 to 512 */
+    SUDOKU_CONTENTS = 4,       /* the store file's contents table or its length is not the one that rows and columns require */
     SUDOKU_LINES = 5,          /* the lines handed in are not rows * columns * 70 bytes, or a single line is not 70 bytes */
     SUDOKU_TABLE = 6,          /* a table, read or written, is not 70 bytes for each of its rows or columns */
     SUDOKU_BUFFER = 7,         /* another buffer has another length: 64 for data, 70 for a line written, as each function says */
@@ -284,6 +307,329 @@ uint32_t sudoku_wear_add(uint64_t *wear, size_t wear_len, const uint8_t *marks, 
  * says nothing of the shares: test the answer first.
  */
 uint32_t sudoku_wear_compare(const uint64_t *a, size_t a_len, const uint64_t *b, size_t b_len, uint32_t *order);
+
+/*
+ * A store file that opens: its sides, and its three parts, each by its offset from the file's start and its length. All 0 where the file
+ * is refused.
+ */
+struct sudoku_layout {
+    uint64_t rows, columns;
+    uint64_t lines_offset, lines_bytes;
+    uint64_t row_offset, row_bytes;
+    uint64_t column_offset, column_bytes;
+};
+
+/*
+ * Opens a store file: tells where its three parts stand. They fill it from byte 28 to its end. What they hold is not looked at.
+ *
+ * Answers: 0; 1 if `file_len` is below 28; 2; 4 if the contents table or `file_len` is not the one that rows and columns require.
+ * With all refusals `layout` is all 0.
+ */
+uint32_t sudoku_open_file(const uint8_t *file, size_t file_len, struct sudoku_layout *layout);
+
+/*
+ * Writes the header of a store file with these sides into `header`, 28 bytes.
+ *
+ * Answers: 0; 2; 7 if `header_len` is not 28.
+ */
+uint32_t sudoku_write_header(size_t rows, size_t columns, uint8_t *header, size_t header_len);
+
+/*
+ * How many bytes of a store file are needed to open it or to refuse it, for a reader that has its first 28 or fewer in `start`: 28 where
+ * these are refused whatever follows, otherwise one more than the file's length should be, which tells that nothing follows. A reader
+ * gets no more than so many bytes, or all there are, and opens those: the answer is the whole file's. (`start` may be longer; where it
+ * is a whole file that opens, 28 is given.)
+ */
+size_t sudoku_bytes_needed(const uint8_t *start, size_t start_len);
+
+/* What a check of a store file found: its sides, the lines for each mark, and repair's passes. All 0 where it is refused. */
+struct sudoku_check {
+    uint64_t rows, columns;
+    uint64_t clean, rewritten, trial, rebuilt, faulty; /* lines with marks 0 to 4 */
+    uint64_t passes;
+};
+
+/*
+ * Opens a store file, repairs its store and counts the marks. Lines, marks and tables are written as sudoku_repair writes them, into
+ * buffers of the lengths that it asks for; the file stays as it is. Sides up to 512 are taken, where the program storecheck takes 16.
+ *
+ * Answers: 0, 11 and 12 as repair gives them, with lines, marks, tables and `check`. 1; 2; 4; 6 if `row_out_len` or `column_out_len` is
+ * not the one that the file's sides ask for; 7 if `out_len` or `marks_len` is not. With all refusals `check` is all 0.
+ */
+uint32_t sudoku_check_file(const uint8_t *file, size_t file_len, uint8_t *out, size_t out_len, uint8_t *marks, size_t marks_len,
+                           uint8_t *row_out, size_t row_out_len, uint8_t *column_out, size_t column_out_len,
+                           struct sudoku_check *check);
+
+/* The library writes both structs as eight numbers of 64 bits: an array of -1 bytes stops a compiler that lays them out otherwise. */
+typedef char sudoku_layout_has_64_bytes[sizeof(struct sudoku_layout) == 64 && sizeof(size_t) == 8 ? 1 : -1];
+typedef char sudoku_check_has_64_bytes[sizeof(struct sudoku_check) == 64 ? 1 : -1];
+
+/*
+ * A store: its sides, and where its lines and tables stand. Their lengths are those that the sides ask for: SUDOKU_LINES_BYTES(rows,
+ * columns), SUDOKU_TABLE_BYTES(rows) and SUDOKU_TABLE_BYTES(columns). They may stand in one buffer that holds a store file, where
+ * sudoku_store_create or sudoku_store_open find them, or in three.
+ *
+ * The functions on stores work out all lengths from the sides. Whatever these are, no length overflows: a store with sides outside 2
+ * to 512 has no lines, and each function that answers refuses it with 2. A second store, `out` or `work`, that has other sides than the
+ * first is refused with 6. Answers, refusals and what is written are otherwise those of the plain function that is called.
+ */
+struct sudoku_store {
+    size_t rows, columns;
+    uint8_t *lines, *row_table, *column_table;
+};
+
+/* One line that was read, its mark, and the last step taken for it. After 2, 6 and 8 mark and step are 0, and the line is as it was. */
+struct sudoku_one {
+    uint8_t line[SUDOKU_LINE_BYTES];
+    uint8_t mark;
+    uint32_t step;
+};
+
+/* How many lines there are, and so how many marks; 0 if a side lies outside 2 to 512. */
+static inline size_t sudoku_store_count(const struct sudoku_store *store)
+{
+    if (store->rows < SUDOKU_LEAST_SIDE || store->rows > SUDOKU_GREATEST_SIDE || store->columns < SUDOKU_LEAST_SIDE
+        || store->columns > SUDOKU_GREATEST_SIDE)
+        return 0;
+    return store->rows * store->columns;
+}
+
+/* The lengths of lines, row table and column table; 0 likewise. */
+static inline size_t sudoku_store_lines_bytes(const struct sudoku_store *store)
+{
+    return SUDOKU_LINE_BYTES * sudoku_store_count(store);
+}
+
+static inline size_t sudoku_store_row_bytes(const struct sudoku_store *store)
+{
+    return sudoku_store_count(store) == 0 ? 0 : SUDOKU_TABLE_BYTES(store->rows);
+}
+
+static inline size_t sudoku_store_column_bytes(const struct sudoku_store *store)
+{
+    return sudoku_store_count(store) == 0 ? 0 : SUDOKU_TABLE_BYTES(store->columns);
+}
+
+/* Where line `n` stands, 70 bytes; null if there is no such line. */
+static inline uint8_t *sudoku_store_line(const struct sudoku_store *store, size_t n)
+{
+    return n < sudoku_store_count(store) ? store->lines + n * SUDOKU_LINE_BYTES : NULL;
+}
+
+/*
+ * Opens a store file in memory: `store` gets its sides and points into it, so that what is done to the store is done to the file. A
+ * file in memory that may not be written can be handed in with a cast, if the store is then only read.
+ *
+ * Answers: 0; 1; 2; 4. With all refusals `store` has sides 0 and null pointers.
+ */
+static inline uint32_t sudoku_store_open(uint8_t *file, size_t file_len, struct sudoku_store *store)
+{
+    struct sudoku_layout layout;
+    const uint32_t answer = sudoku_open_file(file, file_len, &layout);
+
+    store->rows = layout.rows;
+    store->columns = layout.columns;
+    store->lines = answer == SUDOKU_DONE ? file + layout.lines_offset : NULL;
+    store->row_table = answer == SUDOKU_DONE ? file + layout.row_offset : NULL;
+    store->column_table = answer == SUDOKU_DONE ? file + layout.column_offset : NULL;
+    return answer;
+}
+
+/*
+ * Makes a store file of these sides in a buffer of SUDOKU_FILE_BYTES(rows, columns): writes its header, and opens it. Lines and tables
+ * hold what the buffer held, zero bytes a whole store of empty captions. Write each line, then make the tables.
+ *
+ * Answers: 0; 2; 7 if `file_len` is another. With both refusals nothing is written, and `store` has sides 0 and null pointers.
+ */
+static inline uint32_t sudoku_store_create(uint8_t *file, size_t file_len, size_t rows, size_t columns, struct sudoku_store *store)
+{
+    const struct sudoku_store asked = {rows, columns, NULL, NULL, NULL}, none = {0, 0, NULL, NULL, NULL};
+    const int fits = sudoku_store_count(&asked) != 0 && file_len == SUDOKU_FILE_BYTES(rows, columns);
+    const uint32_t answer = sudoku_write_header(rows, columns, file, fits ? SUDOKU_HEADER_BYTES : 0);
+
+    *store = none;
+    return answer == SUDOKU_DONE ? sudoku_store_open(file, file_len, store) : answer;
+}
+
+/*
+ * Writes line `n` from 64 data bytes, in a store that is being made: the tables stay as they are, and are made once all lines stand.
+ * In a store that has its tables use sudoku_store_change.
+ *
+ * Answers: 0; 2; 8.
+ */
+static inline uint32_t sudoku_store_write(struct sudoku_store *store, size_t n, const uint8_t data[SUDOKU_DATA_BYTES])
+{
+    uint8_t *const line = sudoku_store_line(store, n);
+
+    if (line == NULL)
+        return sudoku_store_count(store) == 0 ? SUDOKU_SIDES : SUDOKU_NUMBER;
+    return sudoku_write_line(data, SUDOKU_DATA_BYTES, line, SUDOKU_LINE_BYTES);
+}
+
+/*
+ * Reads line `n` alone, as sudoku_read_line does; the step is 1.
+ *
+ * Answers: 0; 2; 8; 10 if the line is faulty: `one` then has the line as found, mark 4 and step 1.
+ */
+static inline uint32_t sudoku_store_read(const struct sudoku_store *store, size_t n, struct sudoku_one *one)
+{
+    const uint8_t *const line = sudoku_store_line(store, n);
+
+    one->mark = 0;
+    one->step = 0;
+    if (line == NULL)
+        return sudoku_store_count(store) == 0 ? SUDOKU_SIDES : SUDOKU_NUMBER;
+    one->step = SUDOKU_STEP_ALONE;
+    return sudoku_read_line(line, SUDOKU_LINE_BYTES, one->line, sizeof one->line, &one->mark);
+}
+
+/*
+ * Makes both parity tables from the lines: sudoku_make_tables.
+ *
+ * Answers: 0; 2; 10 if any line is faulty.
+ */
+static inline uint32_t sudoku_store_make_tables(struct sudoku_store *store)
+{
+    return sudoku_make_tables(store->rows, store->columns, store->lines, sudoku_store_lines_bytes(store),
+                              store->row_table, sudoku_store_row_bytes(store),
+                              store->column_table, sudoku_store_column_bytes(store));
+}
+
+/*
+ * Writes line `n` anew from 64 data bytes, and its two parity lines with it: sudoku_change_line.
+ *
+ * Answers: 0; 2; 8; 13 with the row, and 14 with the column, as `number`; 10. With all but 13 and 14 `number` is 0.
+ */
+static inline uint32_t sudoku_store_change(struct sudoku_store *store, size_t n, const uint8_t data[SUDOKU_DATA_BYTES],
+                                           uint64_t *number)
+{
+    return sudoku_change_line(store->rows, store->columns, store->lines, sudoku_store_lines_bytes(store),
+                              store->row_table, sudoku_store_row_bytes(store),
+                              store->column_table, sudoku_store_column_bytes(store), n, data, SUDOKU_DATA_BYTES, number);
+}
+
+/*
+ * Repairs a store into another of the same sides, and gives a mark for each line in `marks`, SUDOKU_MARKS_BYTES(rows, columns):
+ * sudoku_repair. Where sudoku_store_create made `out`, its buffer is then the repaired store file.
+ *
+ * Answers: 0; 11; 12; 2; 6 if `out` has other sides.
+ */
+static inline uint32_t sudoku_store_repair(const struct sudoku_store *store, struct sudoku_store *out, uint8_t *marks,
+                                           uint64_t *passes)
+{
+    return sudoku_repair(store->rows, store->columns, store->lines, sudoku_store_lines_bytes(store),
+                         store->row_table, sudoku_store_row_bytes(store), store->column_table, sudoku_store_column_bytes(store),
+                         out->lines, sudoku_store_lines_bytes(out), marks, sudoku_store_count(store),
+                         out->row_table, sudoku_store_row_bytes(out), out->column_table, sudoku_store_column_bytes(out), passes);
+}
+
+/*
+ * Reads line `n` as repair gives it, without repairing more than it takes: sudoku_read_one. `work`, a store of the same sides, and
+ * `marks`, SUDOKU_MARKS_BYTES(rows, columns), are room to work in, and all zero after 0 and 11.
+ *
+ * Answers: 0; 11 exactly if this line stays faulty; 2; 6 if `work` has other sides; 8.
+ */
+static inline uint32_t sudoku_store_read_one(const struct sudoku_store *store, size_t n, struct sudoku_store *work, uint8_t *marks,
+                                             struct sudoku_one *one)
+{
+    return sudoku_read_one(store->rows, store->columns, store->lines, sudoku_store_lines_bytes(store),
+                           store->row_table, sudoku_store_row_bytes(store), store->column_table, sudoku_store_column_bytes(store), n,
+                           work->lines, sudoku_store_lines_bytes(work), marks, sudoku_store_count(store),
+                           work->row_table, sudoku_store_row_bytes(work), work->column_table, sudoku_store_column_bytes(work),
+                           one->line, sizeof one->line, &one->mark, &one->step);
+}
+
+/*
+ * Makes the list that a forecast takes, SUDOKU_MARKS_BYTES(rows, columns): 1 for each line that is faulty alone, 0 for the others.
+ *
+ * Answers: 0; 2.
+ */
+static inline uint32_t sudoku_store_list_faulty(const struct sudoku_store *store, uint8_t *faulty)
+{
+    const size_t count = sudoku_store_count(store);
+    struct sudoku_one one;
+
+    for (size_t n = 0; n < count; n++)
+        faulty[n] = sudoku_store_read(store, n, &one) == SUDOKU_FAULTY;
+    return count == 0 ? SUDOKU_SIDES : SUDOKU_DONE;
+}
+
+/*
+ * Tells what rebuilding alone would save of the lines listed in `faulty`, with a mark for each line in `marks`, both
+ * SUDOKU_MARKS_BYTES(rows, columns): sudoku_forecast. Of the store its sides alone are looked at: its pointers may be null.
+ *
+ * Answers: 0; 2.
+ */
+static inline uint32_t sudoku_store_forecast(const struct sudoku_store *store, const uint8_t *faulty, uint8_t *marks,
+                                             uint64_t *passes)
+{
+    const size_t count = sudoku_store_count(store);
+
+    return sudoku_forecast(store->rows, store->columns, faulty, count, marks, count, passes);
+}
+
+/*
+ * Repairs a store file into a store of its sides and counts the marks: sudoku_check_file. `marks` has SUDOKU_MARKS_BYTES(rows, columns)
+ * of `out`. sudoku_store_open tells the file's sides.
+ *
+ * Answers: 0; 11; 12; 1; 2 for the file's sides; 4; 6 if `out` has other sides than the file, be they 2 to 512 or not.
+ */
+static inline uint32_t sudoku_store_check(const uint8_t *file, size_t file_len, struct sudoku_store *out, uint8_t *marks,
+                                          struct sudoku_check *check)
+{
+    return sudoku_check_file(file, file_len, out->lines, sudoku_store_lines_bytes(out), marks, sudoku_store_count(out),
+                             out->row_table, sudoku_store_row_bytes(out), out->column_table, sudoku_store_column_bytes(out), check);
+}
+
+/*
+ * Takes the marks of a store's repair and its answer into a wear report: sudoku_wear_add.
+ *
+ * Answers: 0; 2; 15.
+ */
+static inline uint32_t sudoku_store_wear(const struct sudoku_store *store, const uint8_t *marks, uint32_t answer,
+                                         uint64_t wear[SUDOKU_WEAR_NUMBERS])
+{
+    const size_t count = sudoku_store_count(store);
+
+    if (count == 0)
+        return SUDOKU_SIDES;
+    return sudoku_wear_add(wear, SUDOKU_WEAR_NUMBERS, marks, count, answer);
+}
+
+/* What an answer says, in a few words for people. */
+static inline const char *sudoku_answer_text(uint32_t answer)
+{
+    switch (answer) {
+    case SUDOKU_DONE: return "done";
+    case SUDOKU_SHORT_FILE: return "the file has fewer than 28 bytes";
+    case SUDOKU_SIDES: return "rows or columns lie outside 2 to 512";
+    case SUDOKU_CONTENTS: return "the file's contents table or length is wrong";
+    case SUDOKU_LINES: return "the lines have another length";
+    case SUDOKU_TABLE: return "a table has another length";
+    case SUDOKU_BUFFER: return "a buffer or the data have another length";
+    case SUDOKU_NUMBER: return "there is no line of this number";
+    case SUDOKU_WEAR: return "the numbers are no wear report, the report is full, or this is no result of a repair";
+    case SUDOKU_ROW_PARITY: return "the parity line of the line's row is not a correct line";
+    case SUDOKU_COLUMN_PARITY: return "the parity line of the line's column is not a correct line";
+    case SUDOKU_FAULTY: return "a line is faulty";
+    case SUDOKU_LEFT: return "faulty lines are left";
+    case SUDOKU_DIFFERS: return "an accepted parity line differs from the repaired lines";
+    default: return "unknown answer";
+    }
+}
+
+/* A mark in one word, that of the reports. */
+static inline const char *sudoku_mark_text(uint8_t mark)
+{
+    switch (mark) {
+    case SUDOKU_MARK_CLEAN: return "clean";
+    case SUDOKU_MARK_REWRITTEN: return "alone";
+    case SUDOKU_MARK_TRIAL: return "trial";
+    case SUDOKU_MARK_REBUILT: return "rebuilt";
+    case SUDOKU_MARK_FAULTY: return "faulty";
+    default: return "unknown mark";
+    }
+}
 
 #ifdef __cplusplus
 }

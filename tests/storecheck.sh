@@ -2,19 +2,8 @@
 # The launcher and the program as people use them: the examples, bad calls, input in pieces, how much is read, input and output
 # that fail, the examples of docs/FORMAT.md, hurt parity lines, and building.
 set -u
-cd "$(dirname "$0")/.."
-room=$(mktemp -d)
-trap 'rm -rf "$room"' EXIT
-checks=0
-wrong=0
-
-# same NAME EXPECTED FOUND
-same() {
-    checks=$((checks + 1))
-    [ "$2" = "$3" ] && return
-    echo "$1: expected '$2', found '$3'"
-    wrong=$((wrong + 1))
-}
+cd "$(dirname "$0")/.." || exit 1
+. tests/checks.sh
 
 # Every example, as an argument, on standard input, and in two pieces: the second implementation's report.
 for store in examples/*.store; do
@@ -179,9 +168,8 @@ done
 same "a hurt Hamming bit" "$(sed 's/^clean 4$/clean 3/; s/^alone 0$/alone 1/' crates/storecheck/stdout)" "$(bin/storecheck "$room/hamming")"
 
 # Building, with a toolchain that only says what it would: each of its lines is shown, and its status counts.
-mkdir -p "$room/copy/bin" "$room/copy/crates" "$room/tools"
-cp bin/storecheck "$room/copy/bin"
-: >"$room/copy/crates.txt"
+mkdir -p "$room/tools"
+copy_repository "$room/copy"
 cat >"$room/tools/rt" <<'TOOL'
 #!/bin/sh
 echo "fn one::first: proved"
@@ -206,5 +194,4 @@ for way in 'kill -9 $$' 'echo "store 4 4"; kill -9 $$' 'exit 0'; do
     same "a program that ends by '$way'" "1 storecheck: the program ended without its report" "$? $(tail -n 1 "$room/said")"
 done
 
-echo "$checks checks of storecheck, $wrong wrong"
-[ "$wrong" -eq 0 ]
+finish storecheck

@@ -3,8 +3,6 @@
  * each call takes. Prints what failed; the exit status is 1 if anything did.
  */
 #define _POSIX_C_SOURCE 200809L
-#include <limits.h>
-#include <pthread.h>
 #include <signal.h>
 #include <stdio.h>
 #include <stdlib.h>
@@ -14,31 +12,13 @@
 #include <unistd.h>
 
 #include "sudoku.h"
+#include "checks.h"
+#include "stack.h"
 
 #define ROWS 2
 #define COLUMNS 3
 #define COUNT (ROWS * COLUMNS)
-#define LINE SUDOKU_LINE_BYTES
 #define ALL (COUNT * LINE)
-#define GUARD 32
-#define FILLING 0xA6
-#define UNSET 0xDEADBEEFDEADBEEFu
-
-static int checks, failures;
-
-#define CHECK(fact)                                                        \
-    do {                                                                   \
-        checks++;                                                          \
-        if (!(fact)) {                                                     \
-            failures++;                                                    \
-            printf("%s:%d: failed: %s\n", __FILE__, __LINE__, #fact);      \
-        }                                                                  \
-    } while (0)
-
-/* Buffers between guard bytes. */
-#define GUARDED(name, length) \
-    static uint8_t name##_all[GUARD + (length) + GUARD]; \
-    static uint8_t *const name = name##_all + GUARD
 
 GUARDED(line, LINE);
 GUARDED(lines, ALL);
@@ -49,24 +29,6 @@ GUARDED(marks, COUNT);
 GUARDED(row_out, ROWS *LINE);
 GUARDED(column_out, COLUMNS *LINE);
 GUARDED(faulty, COUNT);
-
-#define FILL(name) memset(name##_all, FILLING, sizeof name##_all)
-#define INTACT(name) \
-    (all_are(name##_all, GUARD) && all_are(name##_all + sizeof name##_all - GUARD, GUARD))
-#define UNTOUCHED(name) all_are(name##_all, sizeof name##_all)
-
-static int all_equal(const uint8_t *bytes, size_t count, uint8_t value)
-{
-    for (size_t i = 0; i < count; i++)
-        if (bytes[i] != value)
-            return 0;
-    return 1;
-}
-
-static int all_are(const uint8_t *bytes, size_t count)
-{
-    return all_equal(bytes, count, FILLING);
-}
 
 /* A number that is returned, between guard words: not 0 before the call, so that one which does not set it is seen. */
 static uint64_t number_all[3];
@@ -853,96 +815,6 @@ static void forecast_bounds(void)
     put_back(&written);
 }
 
-/* Memory of whole pages, to be hidden or mapped twice: that of a file without a name. */
-static FILE *file_of(size_t bytes)
-{
-    FILE *file = tmpfile();
-
-    if (file == NULL || ftruncate(fileno(file), (off_t)bytes) == 0)
-        return file;
-    fclose(file);
-    return NULL;
-}
-
-static void *mapped(FILE *file, size_t bytes)
-{
-    void *memory = mmap(NULL, bytes, PROT_READ | PROT_WRITE, MAP_SHARED, fileno(file), 0);
-
-    return memory == MAP_FAILED ? NULL : memory;
-}
-
-/*
- * How deep a call goes: it is made on a stack that was painted before. The same memory is mapped a second time and looked at there,
- * since to a memory checker what lies below a thread's stack pointer is nobody's.
- */
-enum { STACK_BYTES = 512 * 1024, PAINT = 0x5C };
-
-static uint8_t *stack_made, *stack_seen;
-
-static int make_stack(void)
-{
-    FILE *file = file_of(STACK_BYTES);
-
-    if (file == NULL)
-        return 0;
-    stack_made = mapped(file, STACK_BYTES);
-    stack_seen = mapped(file, STACK_BYTES);
-    fclose(file);
-    return stack_made != NULL && stack_seen != NULL;
-}
-
-struct deep {
-    void (*call)(void);
-    uintptr_t top;
-};
-
-static void *call_deep(void *given)
-{
-    struct deep *deep = given;
-    volatile uint8_t here = 0;
-
-    deep->top = (uintptr_t)&here;
-    deep->call();
-    return NULL;
-}
-
-/* So many bytes of stack a call takes; 0 if it could not be made. */
-static size_t depth_of(void (*call)(void))
-{
-    struct deep deep = {call, 0};
-    pthread_attr_t attributes;
-    pthread_t thread;
-    size_t untouched = 0;
-
-    /* Made once before, so that no function has to be looked up while it is measured. */
-    call();
-    memset(stack_seen, PAINT, STACK_BYTES);
-    if (pthread_attr_init(&attributes) != 0 || pthread_attr_setstack(&attributes, stack_made, STACK_BYTES) != 0
-        || pthread_create(&thread, &attributes, call_deep, &deep) != 0 || pthread_join(thread, NULL) != 0)
-        return 0;
-    pthread_attr_destroy(&attributes);
-    while (untouched < STACK_BYTES && stack_seen[untouched] == PAINT)
-        untouched++;
-    return deep.top - (uintptr_t)stack_made - untouched;
-}
-
-/*
- * Whether a call can be made on a small stack: so many bytes, and the least that a thread needs for itself. Below it lies a page that
- * nobody may touch, so that a call which needs more ends the program.
- */
-static int runs_within(void (*call)(void), size_t bytes)
-{
-    const size_t page = (size_t)sysconf(_SC_PAGESIZE), whole = bytes + PTHREAD_STACK_MIN;
-    struct deep deep = {call, 0};
-    pthread_attr_t attributes;
-    pthread_t thread;
-    int made = whole % page == 0 && page + whole <= STACK_BYTES && mprotect(stack_made, page, PROT_NONE) == 0;
-
-    made = made && pthread_attr_init(&attributes) == 0 && pthread_attr_setstack(&attributes, stack_made + page, whole) == 0
-           && pthread_create(&thread, &attributes, call_deep, &deep) == 0 && pthread_join(thread, NULL) == 0;
-    return mprotect(stack_made, page, PROT_READ | PROT_WRITE) == 0 && made && deep.top != 0;
-}
-
 /* A store of the greatest size, and all that repair writes of it. */
 enum { SIDE = SUDOKU_GREATEST_SIDE, BIG = SIDE * SIDE };
 
@@ -1262,10 +1134,10 @@ static void touch_deep(void)
     big_answer = array[DEEP - 1];
 }
 
-/* The stack that repair and a read of one line may take, and what they took at most; and what a forecast may take. */
-enum { REPAIR_STACK = 48 * 1024, FORECAST_STACK = 4 * 1024 };
-
+/* What repair and a read of one line took of their stack at most; and what a forecast may take. */
 static size_t repair_depth, one_depth;
+
+enum { FORECAST_STACK = 4 * 1024 };
 
 static int fits(void (*call)(void), size_t *most)
 {
@@ -1295,13 +1167,6 @@ static int one_fits(size_t n, uint32_t step, uint8_t mark)
         && memcmp(line, (faulty ? big_lines : big_written) + n * LINE, LINE) == 0 && all_equal(big_out, sizeof big_out, 0)
         && all_equal(big_marks, sizeof big_marks, 0) && all_equal(big_row_out, sizeof big_row_out, 0)
         && all_equal(big_column_out, sizeof big_column_out, 0);
-}
-
-static int takes_less(void (*call)(void), size_t bytes)
-{
-    const size_t depth = depth_of(call);
-
-    return 0 < depth && depth < bytes;
 }
 
 /* The lines of `chain_big`, as a list. */
