@@ -1,4 +1,4 @@
-//! Links the proved static library, `libcapi.a`.
+//! Links the proved static library.
 //!
 //! It is looked for where `rt staticlib capi` writes it, or at the path that
 //! the environment variable `SUDOKU_STATICLIB` gives.
@@ -7,6 +7,10 @@ use std::env;
 use std::path::{Path, PathBuf};
 
 const VARIABLE: &str = "SUDOKU_STATICLIB";
+
+/// The names that the archive may have, each with what the linker calls it: as
+/// it is built, and as it is installed.
+const NAMES: [(&str, &str); 2] = [("libcapi.a", "capi"), ("libsudoku.a", "sudoku")];
 
 /// Where the archive should stand.
 fn archive() -> PathBuf {
@@ -24,16 +28,17 @@ fn main() {
     let Ok(archive) = archive.canonicalize() else {
         println!(
             "cargo::error=there is no static library at {}: run `rt staticlib capi` in the \
-             repository's root, or set {VARIABLE} to the path of libcapi.a",
+             repository's root, or set {VARIABLE} to the path of libcapi.a or libsudoku.a",
             archive.display()
         );
         return;
     };
-    if archive.file_name().is_none_or(|name| name != "libcapi.a") {
-        println!("cargo::error={VARIABLE} must name a file libcapi.a");
+    let named = |name| archive.file_name().is_some_and(|file| file == name);
+    let Some((_, library)) = NAMES.into_iter().find(|&(name, _)| named(name)) else {
+        println!("cargo::error={VARIABLE} must name a file libcapi.a or libsudoku.a");
         return;
-    }
+    };
     let folder = archive.parent().unwrap_or(Path::new("/"));
     println!("cargo::rustc-link-search=native={}", folder.display());
-    println!("cargo::rustc-link-lib=static=capi");
+    println!("cargo::rustc-link-lib=static={library}");
 }

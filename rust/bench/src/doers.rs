@@ -94,6 +94,11 @@ fn lent(out: &mut Buffers) -> sudoku::c::Out<'_> {
     }
 }
 
+/// Checks a store file with the library; gives the answer and the counts.
+pub fn check_file(file: &[u8], out: &mut Buffers) -> (u32, sudoku::c::Check) {
+    sudoku::c::check_file(file, lent(out))
+}
+
 /// Reads one line as repair gives it, with the library; gives the answer, the
 /// mark and the step.
 pub fn read_one(store: &Store, n: usize, work: &mut Buffers, line: &mut [u8]) -> (u32, u8, u32) {

@@ -4,6 +4,7 @@
 //! ```sh
 //! cargo run --release -p bench                # one run
 //! cargo run --release -p bench -- --runs 10   # several, each a new process
+//! cargo run --release -p bench -- --files     # one run of the last table alone
 //! ```
 //!
 //! Before anything is timed, library and peer are compared once on each store,
@@ -16,9 +17,11 @@
 //!
 //! A second table has one line wanted, a third wear reports, each row beside a
 //! measure of its own, in the same rounds. A fourth has forecasts, beside the
-//! library's own repair and the peer's forecast.
+//! library's own repair and the peer's forecast. A fifth has store files, again
+//! each row beside a measure of its own.
 
 mod doers;
+mod file;
 mod forecast;
 mod one;
 mod runs;
@@ -30,11 +33,14 @@ mod wear;
 use std::array;
 use std::env;
 use std::hint::black_box;
+use std::io;
 use std::process::ExitCode;
 
 use doers::{ALL, Doer, compare, compare_writing};
 use stores::{Buffers, DATA_BYTES, LINE_BYTES, Store};
-use table::{Bar, Figures, HEAD, HEAD_FORECAST, HEAD_ONE, HEAD_WEAR, Row, grown, scaled};
+use table::{
+    Bar, Figures, HEAD, HEAD_FILE, HEAD_FORECAST, HEAD_ONE, HEAD_WEAR, Row, grown, scaled,
+};
 use timing::{ROUNDS, Range, rounds};
 
 /// The side of the large stores.
@@ -121,22 +127,9 @@ fn growth(stores: &[Store; SIDES.len()]) -> Vec<Vec<Figures>> {
     grown(times.into_iter().map(each))
 }
 
-/// One run: for each row of all tables its figures in every round.
-fn run() -> Vec<Vec<Figures>> {
-    let data = stores::data(SIDE * SIDE);
-    let clean_stores = SIDES.map(Store::new);
-    let [small, middle, clean] = &clean_stores;
-    let hurt = [clean.lightly_hurt(), clean.past_repair(), clean.chained()];
-    let large = || [clean].into_iter().chain(&hurt);
-
-    compare_writing(&data);
-    compare(small, (0, 0));
-    compare(middle, (0, 0));
-    for (store, (_, answer, passes, _)) in large().zip(REPAIRS) {
-        compare(store, (answer, passes));
-    }
-    compare(&clean.parity_hurt(), (0, 1));
-
+/// Single lines, tables and repairs of large stores, the first of them clean.
+fn plain(data: &[u8], stores: [&Store; REPAIRS.len()]) -> Vec<Vec<Figures>> {
+    let clean = stores[0];
     let few_data = &data[..FEW * DATA_BYTES];
     let few_lines = &clean.lines[..FEW * LINE_BYTES];
     let mut buffers = Buffers::new(SIDE);
@@ -152,35 +145,66 @@ fn run() -> Vec<Vec<Figures>> {
             black_box(&buffers);
         }),
     ];
-    given.extend(large().map(|store| {
+    given.extend(stores.map(|store| {
         whole(|doer| {
             black_box(doer.repair(black_box(store), &mut buffers));
             black_box(&buffers);
         })
     }));
-    given.extend(growth(&clean_stores));
-    given.extend(one::run(clean));
-    given.extend(wear::run(clean, &hurt[1]));
-    given.extend(forecast::run(clean, &hurt[1], &hurt[2]));
     given
 }
 
-/// The tables: the head of each, its rows, and how many figures a row has. Those
-/// of the first and the last are three times and two ratios, of the others two and
-/// one.
-fn tables() -> [(&'static str, Vec<Row>, usize); 4] {
+/// One run: for each row of all tables its figures in every round.
+fn run() -> io::Result<Vec<Vec<Figures>>> {
+    let data = stores::data(SIDE * SIDE);
+    let clean_stores = SIDES.map(Store::new);
+    let [small, middle, clean] = &clean_stores;
+    let hurt = [clean.lightly_hurt(), clean.past_repair(), clean.chained()];
+    let [lightly, past_repair, chained] = &hurt;
+    let large = [clean, lightly, past_repair, chained];
+
+    compare_writing(&data);
+    compare(small, (0, 0));
+    compare(middle, (0, 0));
+    for (store, (_, answer, passes, _)) in large.into_iter().zip(REPAIRS) {
+        compare(store, (answer, passes));
+    }
+    compare(&clean.parity_hurt(), (0, 1));
+
+    let mut given = plain(&data, large);
+    given.extend(growth(&clean_stores));
+    given.extend(one::run(clean));
+    given.extend(wear::run(clean, past_repair));
+    given.extend(forecast::run(clean, past_repair, chained));
+    given.extend(file::run(clean, lightly, past_repair)?);
+    Ok(given)
+}
+
+/// One run of the last table alone.
+fn run_files() -> io::Result<Vec<Vec<Figures>>> {
+    let clean = Store::new(SIDE);
+    file::run(&clean, &clean.lightly_hurt(), &clean.past_repair())
+}
+
+/// A table: its head, its rows, and how many figures a row has.
+type Table = (&'static str, Vec<Row>, usize);
+
+/// All tables. The figures of the first and of that of forecasts are three times
+/// and two ratios, of the others two and one.
+fn tables() -> [Table; 5] {
     [
         (HEAD, rows(), 5),
         (HEAD_ONE, one::rows(), 3),
         (HEAD_WEAR, wear::rows(), 3),
         (HEAD_FORECAST, forecast::rows(), 5),
+        (HEAD_FILE, file::rows(), 3),
     ]
 }
 
-/// Prints all tables.
-fn print(given: &[Vec<Figures>], range: Range) {
+/// Prints these tables.
+fn print(tables: &[Table], given: &[Vec<Figures>], range: Range) {
     let mut given = given.iter();
-    for (head, rows, _) in tables() {
+    for (head, rows, _) in tables {
         println!("{head}");
         for (row, of) in rows.iter().zip(&mut given) {
             println!("{}", row.line(of, range));
@@ -189,18 +213,39 @@ fn print(given: &[Vec<Figures>], range: Range) {
     }
 }
 
+/// Prints one run of these tables.
+fn print_one(tables: &[Table], given: &[Vec<Figures>]) {
+    println!("One run of at most {ROUNDS} rounds; in brackets the quartiles of the rounds:\n");
+    print(tables, given, Range::Quartiles);
+}
+
 /// Several runs, and the tables over them.
-fn several(count: usize) -> ExitCode {
+fn several(count: usize) -> io::Result<()> {
     let of_table = |(_, rows, width): (_, Vec<Row>, _)| vec![width; rows.len()];
     let widths: Vec<usize> = tables().into_iter().flat_map(of_table).collect();
-    match runs::several(count, &widths) {
-        Ok(given) => {
-            println!(
-                "{count} runs of at most {ROUNDS} rounds; in brackets the least and the greatest run:\n"
-            );
-            print(&given, Range::Whole);
-            ExitCode::SUCCESS
-        }
+    let given = runs::several(count, &widths)?;
+    println!(
+        "{count} runs of at most {ROUNDS} rounds; in brackets the least and the greatest run:\n"
+    );
+    print(&tables(), &given, Range::Whole);
+    Ok(())
+}
+
+fn main() -> ExitCode {
+    let words: Vec<String> = env::args().skip(1).collect();
+    let words: Vec<&str> = words.iter().map(String::as_str).collect();
+    let done = match words[..] {
+        [] => run().map(|given| print_one(&tables(), &given)),
+        ["--files"] => run_files().map(|given| print_one(&tables()[4..], &given)),
+        [runs::FIGURES] => run().map(|given| runs::print_figures(&given)),
+        ["--runs", count] => match count.parse() {
+            Ok(count @ 1..) => several(count),
+            _ => return called_wrong(),
+        },
+        _ => return called_wrong(),
+    };
+    match done {
+        Ok(()) => ExitCode::SUCCESS,
         Err(error) => {
             eprintln!("bench: {error}");
             ExitCode::FAILURE
@@ -208,31 +253,8 @@ fn several(count: usize) -> ExitCode {
     }
 }
 
-fn main() -> ExitCode {
-    let words: Vec<String> = env::args().skip(1).collect();
-    let words: Vec<&str> = words.iter().map(String::as_str).collect();
-    match words[..] {
-        [] => {
-            println!(
-                "One run of at most {ROUNDS} rounds; in brackets the quartiles of the rounds:\n"
-            );
-            print(&run(), Range::Quartiles);
-            ExitCode::SUCCESS
-        }
-        [runs::FIGURES] => {
-            runs::print_figures(&run());
-            ExitCode::SUCCESS
-        }
-        ["--runs", count] => match count.parse() {
-            Ok(count @ 1..) => several(count),
-            _ => called_wrong(),
-        },
-        _ => called_wrong(),
-    }
-}
-
 /// Says how it is called.
 fn called_wrong() -> ExitCode {
-    eprintln!("bench: it takes no argument, or --runs and a number from 1 up");
+    eprintln!("bench: it takes no argument, --files, or --runs and a number from 1 up");
     ExitCode::from(2)
 }

@@ -81,6 +81,19 @@ impl Store {
         }
     }
 
+    /// The same as a store of the crate.
+    pub fn of_crate(&self) -> sudoku::Store {
+        let (side, lines) = (self.side, &self.lines);
+        let store =
+            sudoku::Store::from_parts(side, side, lines, &self.row_table, &self.column_table);
+        store.expect("right lengths")
+    }
+
+    /// The bytes of its file.
+    pub fn file(&self) -> Vec<u8> {
+        self.of_crate().into_bytes()
+    }
+
     /// The store with one line in 97 that lost a bit and one in 2003 that lost
     /// two.
     pub fn lightly_hurt(&self) -> Store {

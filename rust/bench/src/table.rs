@@ -20,6 +20,11 @@ pub const HEAD_WEAR: &str = "\
 | wear | library | measure | library / measure | bar | met |
 |---|---|---|---|---|---|";
 
+/// The head of the table of store files, each row beside its own measure.
+pub const HEAD_FILE: &str = "\
+| store file | library | measure | library / measure | bar | met |
+|---|---|---|---|---|---|";
+
 /// The head of the table of forecasts, beside the repair of the same store and the
 /// peer's forecast.
 pub const HEAD_FORECAST: &str = "\

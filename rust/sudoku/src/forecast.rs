@@ -1,6 +1,6 @@
 //! What rebuilding alone would save of a store, from its list of faulty lines.
 
-use crate::{Answer, Mark, c, count_of};
+use crate::{Mark, Refusal, c, count_of};
 
 /// What rebuilding alone would make of some faulty lines: which of them it saves,
 /// which are lost, and in how many passes.
@@ -14,6 +14,7 @@ use crate::{Answer, Mark, c, count_of};
 /// may leave more.
 ///
 /// [`Store::repair`]: crate::Store::repair
+#[must_use]
 #[derive(Clone, Debug, PartialEq, Eq)]
 pub struct Forecast {
     /// A mark for each line: [`Mark::Clean`] if the list doesn't name it,
@@ -28,6 +29,7 @@ pub struct Forecast {
 impl Forecast {
     /// The numbers of the lines that stay faulty, rising: the largest part of the
     /// named lines of which no row and no column holds exactly one.
+    #[must_use]
     pub fn lost(&self) -> Vec<usize> {
         let lines = self.marks.iter().enumerate();
         let lost = lines.filter(|&(_, &mark)| mark == Mark::Faulty);
@@ -42,8 +44,9 @@ impl Forecast {
     /// // Three corners of a square, and all four.
     /// assert!(forecast(9, 9, &[10, 15, 64])?.saves_all());
     /// assert!(!forecast(9, 9, &[10, 15, 64, 69])?.saves_all());
-    /// # Ok::<(), sudoku::Answer>(())
+    /// # Ok::<(), sudoku::Refusal>(())
     /// ```
+    #[must_use]
     pub fn saves_all(&self) -> bool {
         !self.marks.contains(&Mark::Faulty)
     }
@@ -58,7 +61,7 @@ impl Forecast {
 /// bound.
 ///
 /// ```
-/// use sudoku::{Answer, Mark, forecast};
+/// use sudoku::{Mark, Refusal, forecast};
 ///
 /// // A corner of three lines: a row and a column with one faulty line each open
 /// // it.
@@ -72,26 +75,26 @@ impl Forecast {
 /// assert_eq!(ring.marks[6], Mark::Rebuilt);
 /// assert_eq!(ring.marks[7], Mark::Clean);
 ///
-/// assert_eq!(forecast(3, 4, &[12]), Err(Answer::Number));
-/// assert_eq!(forecast(3, 513, &[]), Err(Answer::Sides));
-/// # Ok::<(), Answer>(())
+/// assert_eq!(forecast(3, 4, &[12]), Err(Refusal::Number));
+/// assert_eq!(forecast(3, 513, &[]), Err(Refusal::Sides));
+/// # Ok::<(), Refusal>(())
 /// ```
 ///
 /// # Errors
 ///
-/// [`Answer::Sides`] if rows or columns lie outside 2 to 512; [`Answer::Number`]
+/// [`Refusal::Sides`] if rows or columns lie outside 2 to 512; [`Refusal::Number`]
 /// if there is no line with one of these numbers.
-pub fn forecast(rows: usize, columns: usize, faulty: &[usize]) -> Result<Forecast, Answer> {
+pub fn forecast(rows: usize, columns: usize, faulty: &[usize]) -> Result<Forecast, Refusal> {
     let count = count_of(rows, columns)?;
     let mut named = vec![0; count];
     for &n in faulty {
-        *named.get_mut(n).ok_or(Answer::Number)? = 1;
+        *named.get_mut(n).ok_or(Refusal::Number)? = 1;
     }
     let mut marks = vec![0; count];
     let (answer, passes) = c::forecast(rows, columns, &named, &mut marks);
     // With these sides and lengths it isn't refused; if it were, its marks would
     // say that nothing is lost.
-    Answer::from_numbers(answer, 0).done()?;
+    Refusal::check(answer, 0)?;
     Ok(Forecast {
         marks: marks.into_iter().map(Mark::from_number).collect(),
         passes,

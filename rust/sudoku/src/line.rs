@@ -11,6 +11,7 @@ use crate::{DATA_BYTES, LINE_BYTES, Mark, c};
 /// assert_eq!(line[..64], data);
 /// assert_eq!(line[64..], [0xC7, 0x6F, 0x66, 0x56, 0x09, 0x00]);
 /// ```
+#[must_use]
 pub fn write_line(data: &[u8; DATA_BYTES]) -> [u8; LINE_BYTES] {
     let mut line = [0; LINE_BYTES];
     // With these lengths the answer is always 0.
@@ -19,6 +20,7 @@ pub fn write_line(data: &[u8; DATA_BYTES]) -> [u8; LINE_BYTES] {
 }
 
 /// A line that was read, and its mark.
+#[must_use]
 #[derive(Clone, Copy, Debug, PartialEq, Eq)]
 pub struct Read {
     /// The line read, or the line as found if it is faulty; its spare bits
@@ -32,6 +34,7 @@ pub struct Read {
 
 impl Read {
     /// The line's 64 data bytes. Those of a faulty line are damaged.
+    #[must_use]
     pub fn data(&self) -> [u8; DATA_BYTES] {
         let mut data = [0; DATA_BYTES];
         data.copy_from_slice(&self.line[..DATA_BYTES]);
@@ -40,8 +43,23 @@ impl Read {
 
     /// Whether the line is faulty: two or more of its bits are damaged, and they
     /// couldn't be mended.
+    #[must_use]
     pub fn is_faulty(&self) -> bool {
         self.mark == Mark::Faulty
+    }
+
+    /// The line's 64 data bytes, unless it is faulty.
+    ///
+    /// ```
+    /// use sudoku::{read_line, write_line};
+    /// let mut line = write_line(&[7; 64]);
+    /// assert_eq!(read_line(&line).whole(), Some([7; 64]));
+    /// line[0] ^= 3;
+    /// assert_eq!(read_line(&line).whole(), None);
+    /// ```
+    #[must_use]
+    pub fn whole(&self) -> Option<[u8; DATA_BYTES]> {
+        (!self.is_faulty()).then(|| self.data())
     }
 }
 

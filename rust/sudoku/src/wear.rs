@@ -7,7 +7,7 @@ mod text;
 pub use share::{Percent, Share};
 pub use text::TextError;
 
-use crate::{Answer, Mark, Repaired, c};
+use crate::{Mark, Outcome, Refusal, Repaired, c};
 
 // Where C has each number; the marks stand in the order of their numbers.
 const STORES: usize = 0;
@@ -43,7 +43,7 @@ const DIFFERS: usize = 9;
 ///         left      1   33.33 %  faulty lines are left
 ///         differs   1   33.33 %  lines and tables differ: trust no line"
 /// );
-/// # Ok::<(), sudoku::Answer>(())
+/// # Ok::<(), sudoku::Refusal>(())
 /// ```
 #[derive(Clone, Copy, Debug, Default, PartialEq, Eq, Hash)]
 pub struct Wear {
@@ -64,6 +64,7 @@ impl Wear {
     pub const MOST_LINES: u64 = 4_194_304;
 
     /// The empty report: nothing seen yet.
+    #[must_use]
     pub const fn new() -> Wear {
         Wear {
             numbers: [0; Wear::NUMBERS],
@@ -73,28 +74,28 @@ impl Wear {
     /// Takes in what a repair gave.
     ///
     /// ```
-    /// use sudoku::{Answer, Mark, Store, Wear};
+    /// use sudoku::{Mark, Outcome, Store, Wear};
     /// let mut wear = Wear::new();
     /// let mut store = Store::new(2, 2)?;
     /// wear.add(&store.repair())?;
     ///
     /// // Two bits of line 3 turn over: it is rebuilt.
-    /// store.lines_mut()[3 * sudoku::LINE_BYTES] ^= 3;
+    /// store.line_bytes_mut()[3 * sudoku::LINE_BYTES] ^= 3;
     /// wear.add(&store.repair())?;
     /// assert_eq!((wear.stores(), wear.lines()), (2, 8));
     /// assert_eq!(wear.lines_with(Mark::Clean), 7);
     /// assert_eq!(wear.lines_with(Mark::Rebuilt), 1);
-    /// assert_eq!(wear.stores_with(Answer::Done), 2);
-    /// # Ok::<(), Answer>(())
+    /// assert_eq!(wear.stores_with(Outcome::Done), 2);
+    /// # Ok::<(), sudoku::Refusal>(())
     /// ```
     ///
     /// # Errors
     ///
     /// As [`Wear::add_result`]. Of what [`Store::repair`](crate::Store::repair)
     /// gives none is refused before the report has its million stores.
-    pub fn add(&mut self, repaired: &Repaired) -> Result<(), Answer> {
+    pub fn add(&mut self, repaired: &Repaired) -> Result<(), Refusal> {
         let marks: Vec<u8> = repaired.marks.iter().map(|mark| mark.number()).collect();
-        self.add_result(&marks, repaired.answer.number())
+        self.add_result(&marks, repaired.outcome.number())
     }
 
     /// Takes in a result by its numbers: a mark for each line and the answer, as
@@ -105,38 +106,41 @@ impl Wear {
     /// Add only what repair gave.
     ///
     /// ```
-    /// use sudoku::{Answer, Wear};
+    /// use sudoku::{Refusal, Wear};
     /// let mut wear = Wear::new();
     /// wear.add_result(&[0, 0, 3, 4], 11)?;
     /// assert_eq!(wear.numbers(), [1, 4, 2, 0, 0, 1, 1, 0, 1, 0]);
     ///
     /// // A repair that was refused has no result.
-    /// assert_eq!(wear.add_result(&[0; 4], 7), Err(Answer::Wear));
+    /// assert_eq!(wear.add_result(&[0; 4], 7), Err(Refusal::Wear));
     /// assert_eq!(wear.stores(), 1);
-    /// # Ok::<(), Answer>(())
+    /// # Ok::<(), Refusal>(())
     /// ```
     ///
     /// # Errors
     ///
-    /// [`Answer::Wear`] if there are [`Wear::MOST_STORES`] already, or the result
+    /// [`Refusal::Wear`] if there are [`Wear::MOST_STORES`] already, or the result
     /// isn't [`Wear::LEAST_LINES`] to [`Wear::MOST_LINES`] marks of 0 to 4 with
     /// answer 0, 11 or 12. The report is then as before.
-    pub fn add_result(&mut self, marks: &[u8], answer: u32) -> Result<(), Answer> {
+    pub fn add_result(&mut self, marks: &[u8], answer: u32) -> Result<(), Refusal> {
         let answer = c::wear_add(&mut self.numbers, marks, answer);
-        Answer::from_numbers(answer, 0).done()
+        Refusal::check(answer, 0)
     }
 
     /// Stores seen.
+    #[must_use]
     pub fn stores(&self) -> u64 {
         self.numbers[STORES]
     }
 
     /// Lines seen.
+    #[must_use]
     pub fn lines(&self) -> u64 {
         self.numbers[LINES]
     }
 
     /// Lines with this mark; none with one that this crate doesn't know.
+    #[must_use]
     pub fn lines_with(&self, mark: Mark) -> u64 {
         match mark {
             Mark::Other(_) => 0,
@@ -144,14 +148,13 @@ impl Wear {
         }
     }
 
-    /// Stores whose repair answered so: [`Answer::Done`], [`Answer::Left`] or
-    /// [`Answer::Differs`]; none with any other answer.
-    pub fn stores_with(&self, answer: Answer) -> u64 {
-        match answer {
-            Answer::Done => self.numbers[DONE],
-            Answer::Left => self.numbers[LEFT],
-            Answer::Differs => self.numbers[DIFFERS],
-            _ => 0,
+    /// Stores whose repair had this outcome.
+    #[must_use]
+    pub fn stores_with(&self, outcome: Outcome) -> u64 {
+        match outcome {
+            Outcome::Done => self.numbers[DONE],
+            Outcome::Left => self.numbers[LEFT],
+            Outcome::Differs => self.numbers[DIFFERS],
         }
     }
 
@@ -170,8 +173,9 @@ impl Wear {
     /// let mut units = [fresh, worn, fair];
     /// units.sort_by_key(|wear| Reverse(wear.rebuilt_share()));
     /// assert_eq!(units, [worn, fair, fresh]);
-    /// # Ok::<(), sudoku::Answer>(())
+    /// # Ok::<(), sudoku::Refusal>(())
     /// ```
+    #[must_use]
     pub fn rebuilt_share(&self) -> Share {
         Share::of(*self)
     }
@@ -180,39 +184,39 @@ impl Wear {
     /// stores with answers 0, 11 and 12.
     ///
     /// ```
-    /// use sudoku::{Answer, Wear};
+    /// use sudoku::{Refusal, Wear};
     /// let wear = Wear::from_numbers([1, 4, 2, 0, 0, 1, 1, 0, 1, 0])?;
     /// assert_eq!((wear.stores(), wear.lines()), (1, 4));
     ///
     /// // The marks don't add up to the lines.
     /// let wrong = Wear::from_numbers([1, 5, 2, 0, 0, 1, 1, 0, 1, 0]);
-    /// assert_eq!(wrong, Err(Answer::Wear));
-    /// # Ok::<(), Answer>(())
+    /// assert_eq!(wrong, Err(Refusal::Wear));
+    /// # Ok::<(), Refusal>(())
     /// ```
     ///
     /// # Errors
     ///
-    /// [`Answer::Wear`] if marks or answers don't add up to the lines or stores,
+    /// [`Refusal::Wear`] if marks or answers don't add up to the lines or stores,
     /// or there are more than [`Wear::MOST_STORES`], or more than
     /// [`Wear::MOST_LINES`] lines for each store.
-    pub fn from_numbers(numbers: [u64; Wear::NUMBERS]) -> Result<Wear, Answer> {
+    pub fn from_numbers(numbers: [u64; Wear::NUMBERS]) -> Result<Wear, Refusal> {
         // Compared with themselves they are equal, or refused as no report.
         let (answer, _) = c::wear_compare(&numbers, &numbers);
-        Answer::from_numbers(answer, 0)
-            .done()
-            .map(|()| Wear { numbers })
+        Refusal::check(answer, 0)?;
+        Ok(Wear { numbers })
     }
 
     /// The ten numbers, as [`Wear::from_numbers`] takes them.
+    #[must_use]
     pub fn numbers(&self) -> [u64; Wear::NUMBERS] {
         self.numbers
     }
 }
 
 impl TryFrom<[u64; Wear::NUMBERS]> for Wear {
-    type Error = Answer;
+    type Error = Refusal;
 
-    fn try_from(numbers: [u64; Wear::NUMBERS]) -> Result<Wear, Answer> {
+    fn try_from(numbers: [u64; Wear::NUMBERS]) -> Result<Wear, Refusal> {
         Wear::from_numbers(numbers)
     }
 }

@@ -1,8 +1,10 @@
 //! The library and the second implementation, called alike.
 
-use sudoku::c::Out;
+use sudoku::c::{Check, Layout, Out};
 
-/// The nine entry points over slices; each gives its answer first.
+use crate::by_reference;
+
+/// The thirteen entry points over slices; each gives its answer first.
 pub trait Interface {
     /// What failures are told by.
     fn name(&self) -> &'static str;
@@ -69,6 +71,19 @@ pub trait Interface {
 
     /// Compares the shares of two wear reports; gives their order too.
     fn wear_compare(&self, a: &[u64], b: &[u64]) -> (u32, u32);
+
+    /// Opens a store file; gives where its parts stand too.
+    fn open_file(&self, file: &[u8]) -> (u32, Layout);
+
+    /// Writes the header of a store file.
+    fn write_header(&self, rows: usize, columns: usize, header: &mut [u8]) -> u32;
+
+    /// Gives no answer, but how many bytes of a file that begins so have to be
+    /// read.
+    fn bytes_needed(&self, start: &[u8]) -> usize;
+
+    /// Repairs the store of a file and counts its marks; gives the counts too.
+    fn check_file(&self, file: &[u8], out: Out) -> (u32, Check);
 }
 
 /// Both implementations, for tests that each has to pass.
@@ -152,6 +167,22 @@ impl Interface for Library {
 
     fn wear_compare(&self, a: &[u64], b: &[u64]) -> (u32, u32) {
         sudoku::c::wear_compare(a, b)
+    }
+
+    fn open_file(&self, file: &[u8]) -> (u32, Layout) {
+        sudoku::c::open_file(file)
+    }
+
+    fn write_header(&self, rows: usize, columns: usize, header: &mut [u8]) -> u32 {
+        sudoku::c::write_header(rows, columns, header)
+    }
+
+    fn bytes_needed(&self, start: &[u8]) -> usize {
+        sudoku::c::bytes_needed(start)
+    }
+
+    fn check_file(&self, file: &[u8], out: Out) -> (u32, Check) {
+        sudoku::c::check_file(file, out)
     }
 }
 
@@ -238,6 +269,22 @@ impl Interface for Reference {
 
     fn wear_compare(&self, a: &[u64], b: &[u64]) -> (u32, u32) {
         reference::wear::compare(a, b)
+    }
+
+    fn open_file(&self, file: &[u8]) -> (u32, Layout) {
+        by_reference::open_file(file)
+    }
+
+    fn write_header(&self, rows: usize, columns: usize, header: &mut [u8]) -> u32 {
+        by_reference::write_header(rows, columns, header)
+    }
+
+    fn bytes_needed(&self, start: &[u8]) -> usize {
+        by_reference::bytes_needed(start)
+    }
+
+    fn check_file(&self, file: &[u8], out: Out) -> (u32, Check) {
+        by_reference::check_file(file, same(out))
     }
 }
 

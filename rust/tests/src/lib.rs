@@ -1,12 +1,15 @@
 //! What the tests of the library share: both implementations behind one
 //! interface, buffers with guards, and the comparison of one call.
 
+mod by_reference;
 mod compare;
+pub mod file;
 pub mod forecast;
 mod guard;
 mod interface;
 pub mod wear;
 
+pub use by_reference::file_bytes;
 pub use compare::{Entry, Numbers, compare};
 pub use guard::Guarded;
 pub use interface::{Interface, Library, Reference, both};

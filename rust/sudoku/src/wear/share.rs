@@ -24,7 +24,7 @@ use crate::{Mark, Wear, c};
 /// let none = Wear::from_numbers([1, 4, 4, 0, 0, 0, 0, 1, 0, 0])?;
 /// assert_ne!(none, Wear::new());
 /// assert_eq!(none.rebuilt_share(), Wear::new().rebuilt_share());
-/// # Ok::<(), sudoku::Answer>(())
+/// # Ok::<(), sudoku::Refusal>(())
 /// ```
 #[derive(Clone, Copy, Debug)]
 pub struct Share {
@@ -101,6 +101,7 @@ impl Percent {
     /// // All of nothing is none.
     /// assert_eq!(Percent::of(3, 0).to_string(), "0.00 %");
     /// ```
+    #[must_use]
     pub const fn of(part: u64, whole: u64) -> Percent {
         // `min` can't be called in a `const fn`.
         let part = if part < whole { part } else { whole };

@@ -3,7 +3,7 @@
 use std::fmt::{self, Display, Formatter};
 
 use super::{Percent, Wear};
-use crate::{Answer, Mark};
+use crate::{Mark, Outcome};
 
 /// What the marks say, in few words.
 const MARKS: [(Mark, &str); 5] = [
@@ -14,15 +14,11 @@ const MARKS: [(Mark, &str); 5] = [
     (Mark::Faulty, "given up"),
 ];
 
-/// The answers of a repair, each with a word for it and what it says.
-const ANSWERS: [(Answer, &str, &str); 3] = [
-    (Answer::Done, "done", "every line is whole"),
-    (Answer::Left, "left", "faulty lines are left"),
-    (
-        Answer::Differs,
-        "differs",
-        "lines and tables differ: trust no line",
-    ),
+/// A word for each outcome.
+const OUTCOMES: [(Outcome, &str); 3] = [
+    (Outcome::Done, "done"),
+    (Outcome::Left, "left"),
+    (Outcome::Differs, "differs"),
 ];
 
 /// A number with commas between its thousands.
@@ -57,7 +53,7 @@ impl Rows {
         f: &mut Formatter,
         word: impl Display,
         count: u64,
-        says: &str,
+        says: impl Display,
     ) -> fmt::Result {
         let name = std::mem::take(&mut self.name);
         let percent = Percent::of(count, self.whole);
@@ -87,8 +83,8 @@ impl Display for Wear {
             of_lines.write(f, mark, self.lines_with(mark), says)?;
         }
         let mut of_stores = rows("stores", stores);
-        for (answer, word, says) in ANSWERS {
-            of_stores.write(f, word, self.stores_with(answer), says)?;
+        for (outcome, word) in OUTCOMES {
+            of_stores.write(f, word, self.stores_with(outcome), outcome)?;
         }
         Ok(())
     }

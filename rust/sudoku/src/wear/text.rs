@@ -13,7 +13,7 @@ pub enum TextError {
     /// This word is no whole number from 0 to 2⁶⁴ − 1, written in digits alone.
     Number(String),
     /// It is ten numbers, and these are no report:
-    /// [`Answer::Wear`](crate::Answer::Wear).
+    /// [`Refusal::Wear`](crate::Refusal::Wear).
     Report,
 }
 
@@ -48,8 +48,9 @@ impl Wear {
     /// wear.add_result(&[0, 0, 3, 4], 11)?;
     /// assert_eq!(wear.to_text(), "1 4 2 0 0 1 1 0 1 0");
     /// assert_eq!(Wear::from_text(&wear.to_text()), Ok(wear));
-    /// # Ok::<(), sudoku::Answer>(())
+    /// # Ok::<(), sudoku::Refusal>(())
     /// ```
+    #[must_use]
     pub fn to_text(&self) -> String {
         self.numbers.map(|number| number.to_string()).join(" ")
     }

@@ -5,7 +5,7 @@ use library_tests::{Library, as_many_as_usual, cases, seed, watched};
 use reference::draw;
 use reference::draw::forecast::{Call, Given, call_on, pattern};
 use reference::random::Random;
-use sudoku::{Answer, Forecast, Mark, Repaired, Store, forecast};
+use sudoku::{Forecast, Mark, Refusal, Repaired, Store, forecast};
 
 use crate::crate_over_c::store_of;
 use crate::demands::has_unusable;
@@ -69,13 +69,17 @@ fn lists_in_any_order() {
 /// The numbers of the lines that can't be read alone.
 fn faulty_lines(store: &Store) -> Vec<usize> {
     let is_faulty = |&n: &usize| store.read(n).is_ok_and(|read| read.is_faulty());
-    (0..store.count()).filter(is_faulty).collect()
+    let faulty: Vec<usize> = (0..store.count()).filter(is_faulty).collect();
+    assert_eq!(store.faulty(), faulty);
+    faulty
 }
 
 /// The numbers of the lines that repair gives up.
 fn given_up(repaired: &Repaired) -> Vec<usize> {
     let is_faulty = |&n: &usize| repaired.marks[n] == Mark::Faulty;
-    (0..repaired.marks.len()).filter(is_faulty).collect()
+    let given_up: Vec<usize> = (0..repaired.marks.len()).filter(is_faulty).collect();
+    assert!(repaired.lost().eq(given_up.iter().copied()));
+    given_up
 }
 
 /// Stores with usable parity lines: of a list that names other lines besides the
@@ -110,22 +114,22 @@ fn no_caption_is_given_up_that_is_not_foretold() {
 }
 
 #[test]
-fn bad_input_comes_back_as_an_answer() {
+fn bad_input_comes_back_as_a_refusal() {
     for sides in [(1, 2), (2, 1), (513, 2), (2, 513), (0, 0)] {
-        assert_eq!(forecast(sides.0, sides.1, &[]), Err(Answer::Sides));
+        assert_eq!(forecast(sides.0, sides.1, &[]), Err(Refusal::Sides));
         // The sides are tested first.
         assert_eq!(
             forecast(sides.0, sides.1, &[usize::MAX]),
-            Err(Answer::Sides)
+            Err(Refusal::Sides)
         );
     }
     let huge = [(usize::MAX, usize::MAX), (1 << 63, 2), (1 << 32, 1 << 32)];
     for sides in huge {
-        assert_eq!(forecast(sides.0, sides.1, &[0]), Err(Answer::Sides));
+        assert_eq!(forecast(sides.0, sides.1, &[0]), Err(Refusal::Sides));
     }
     for number in [6, 7, usize::MAX] {
-        assert_eq!(forecast(2, 3, &[number]), Err(Answer::Number));
-        assert_eq!(forecast(2, 3, &[0, number, 1]), Err(Answer::Number));
+        assert_eq!(forecast(2, 3, &[number]), Err(Refusal::Number));
+        assert_eq!(forecast(2, 3, &[0, number, 1]), Err(Refusal::Number));
     }
     let last = forecast(2, 3, &[5]).expect("a line");
     assert_eq!(last.marks[5], Mark::Rebuilt);

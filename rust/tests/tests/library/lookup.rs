@@ -9,7 +9,7 @@ use library_tests::{
 };
 use reference::draw::{self, Call, Damage, Outcome, Store};
 use reference::random::Random;
-use sudoku::Answer;
+use sudoku::NotWhole;
 use sudoku::c::Out;
 
 use crate::crate_over_c::store_of;
@@ -68,7 +68,8 @@ fn read_one_of_store(call: &Call) -> q4::Given {
     assert!(store == store_of(&q4::store_of(call)));
     let (step, mark) = (one.step.number(), one.read.mark.number());
     assert_eq!(one.read.is_faulty(), mark == 4);
-    assert_eq!(one.whole().err(), (mark == 4).then_some(Answer::Left));
+    let left = (mark == 4).then_some(NotWhole::Left { lines: 1 });
+    assert_eq!(one.whole().err(), left);
     q4::whole(call, (step, mark), &one.read.line)
 }
 

@@ -11,7 +11,7 @@ use q2::Spoilt;
 use q3::Case;
 use reference::draw::{Call, Outcome};
 use reference::random::Random;
-use sudoku::{Answer, Store};
+use sudoku::{Refusal, Store};
 
 use crate::samples::repair;
 
@@ -36,34 +36,34 @@ fn change(on: &dyn Interface, call: &Call) -> q2::Given {
 /// The crate's store of this call's lines and tables, which have the right
 /// lengths.
 fn store_of(call: &Call) -> Store {
-    let Call {
-        lines,
-        row_table,
-        column_table,
-        ..
-    } = call.clone();
-    Store::from_parts(call.rows, call.columns, lines, row_table, column_table)
-        .expect("right lengths")
+    Store::from_parts(
+        call.rows,
+        call.columns,
+        &call.lines,
+        &call.row_table,
+        &call.column_table,
+    )
+    .expect("right lengths")
 }
 
-/// The numbers that C gives for an answer.
-fn numbers(answer: Answer) -> (u32, u64) {
-    let number = match answer {
-        Answer::RowParity { row } => row,
-        Answer::ColumnParity { column } => column,
+/// The numbers that C gives for a change.
+fn numbers(given: Result<(), Refusal>) -> (u32, u64) {
+    let Err(refusal) = given else { return (0, 0) };
+    let number = match refusal {
+        Refusal::RowParity { row } => row,
+        Refusal::ColumnParity { column } => column,
         _ => 0,
     };
-    (answer.number(), number as u64)
+    (refusal.number(), number as u64)
 }
 
 /// What the crate's store gives for a change.
 fn change_store(call: &Call) -> q2::Given {
     let mut store = store_of(call);
     let data = call.data[..].try_into().expect("64 bytes");
-    let answer = store.change(call.n, data).err().unwrap_or(Answer::Done);
-    let (answer, number) = numbers(answer);
+    let (answer, number) = numbers(store.change(call.n, data));
     let mut after = call.clone();
-    after.lines = store.lines().to_vec();
+    after.lines = store.line_bytes().to_vec();
     after.row_table = store.row_table().to_vec();
     after.column_table = store.column_table().to_vec();
     q2::Given {
@@ -79,9 +79,9 @@ fn repair_store(call: &Call) -> Outcome {
     let repaired = store.repair();
     assert!(store == store_of(call));
     Outcome {
-        answer: repaired.answer.number(),
+        answer: repaired.outcome.number(),
         passes: repaired.passes,
-        lines: repaired.store.lines().to_vec(),
+        lines: repaired.store.line_bytes().to_vec(),
         marks: repaired.marks.iter().map(|mark| mark.number()).collect(),
         row_table: repaired.store.row_table().to_vec(),
         column_table: repaired.store.column_table().to_vec(),
@@ -204,21 +204,21 @@ fn a_person_reads_what_to_do() {
     let line = 3 * 6 + 4;
     store.column_table_mut()[4 * 70] ^= 1;
     let refused = store.change(line, &[7; 64]).expect_err("a bad column");
-    assert_eq!(refused, Answer::ColumnParity { column: 4 });
+    assert_eq!(refused, Refusal::ColumnParity { column: 4 });
     assert_eq!(
         refused.to_string(),
         "the parity line of column 4 is not a correct line: repair the store or reload the column table"
     );
     store.row_table_mut()[3 * 70] ^= 1;
     let refused = store.change(line, &[7; 64]).expect_err("a bad row");
-    assert_eq!(refused, Answer::RowParity { row: 3 });
+    assert_eq!(refused, Refusal::RowParity { row: 3 });
     assert_eq!(
         refused.to_string(),
         "the parity line of row 3 is not a correct line: repair the store or reload the row table"
     );
     // Repaired, the store can be changed.
     let mut repaired = store.repair();
-    assert_eq!(repaired.answer, Answer::Done);
+    assert_eq!(repaired.outcome, sudoku::Outcome::Done);
     assert_eq!(repaired.store.change(line, &[7; 64]), Ok(()));
-    assert_eq!(repaired.store.repair().answer, Answer::Done);
+    assert_eq!(repaired.store.repair().outcome, sudoku::Outcome::Done);
 }

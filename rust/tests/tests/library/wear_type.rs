@@ -5,7 +5,7 @@ use std::cmp::{Ordering, Reverse};
 use library_tests::{cases, seed};
 use reference::draw::{self, wear::Flaw};
 use reference::random::Random;
-use sudoku::{Answer, Mark, Percent, Repaired, Store, TextError, Wear};
+use sudoku::{Mark, Outcome, Percent, Refusal, Repaired, Store, TextError, Wear};
 
 use crate::crate_over_c::store_of;
 use crate::tours::counted;
@@ -25,7 +25,7 @@ fn wear_in(numbers: &[u64]) -> Wear {
 fn add(numbers: &[u64], marks: &[u8], answer: u32) -> q5::Added {
     let mut wear = wear_in(numbers);
     let given = wear.add_result(marks, answer).err();
-    (given.map_or(0, Answer::number), wear.numbers().to_vec())
+    (given.map_or(0, Refusal::number), wear.numbers().to_vec())
 }
 
 /// A comparison of two reports, by the order of their shares.
@@ -72,7 +72,7 @@ fn repairs_of_stores_are_added_up() {
         let repaired = store_of(&draw::hurt_store(&mut random, 6)).repair();
         assert_eq!(wear.add(&repaired), Ok(()));
         let marks: Vec<u8> = repaired.marks.iter().map(|mark| mark.number()).collect();
-        taken.push((marks, repaired.answer.number()));
+        taken.push((marks, repaired.outcome.number()));
         assert_eq!(wear.numbers(), counted(&taken));
     }
 }
@@ -84,19 +84,15 @@ fn what_is_refused_leaves_the_report() {
     for mark in [5, 255] {
         let mut wrong = four_lines();
         wrong.marks[3] = Mark::Other(mark);
-        assert_eq!(after.add(&wrong), Err(Answer::Wear));
+        assert_eq!(after.add(&wrong), Err(Refusal::Wear));
     }
-    let answers = [Answer::Faulty, Answer::Other(9), Answer::Wear];
-    for answer in answers.into_iter().chain([Answer::RowParity { row: 0 }]) {
-        let wrong = Repaired {
-            answer,
-            ..four_lines()
-        };
-        assert_eq!(after.add(&wrong), Err(Answer::Wear));
+    // Refusals, which no `Repaired` can have, and a number of none.
+    for answer in [10, 9, 15, 13] {
+        assert_eq!(after.add_result(&[0; 4], answer), Err(Refusal::Wear));
     }
     let mut short = four_lines();
     short.marks.pop();
-    assert_eq!(after.add(&short), Err(Answer::Wear));
+    assert_eq!(after.add(&short), Err(Refusal::Wear));
     assert_eq!(after, before);
     // And the next one that is a result is taken in.
     assert_eq!(after.add(&four_lines()), Ok(()));
@@ -105,7 +101,7 @@ fn what_is_refused_leaves_the_report() {
     let before = wear(of_share((1, ALL_LINES)));
     let mut full = before;
     assert_eq!(full.stores(), Wear::MOST_STORES);
-    assert_eq!(full.add(&four_lines()), Err(Answer::Wear));
+    assert_eq!(full.add(&four_lines()), Err(Refusal::Wear));
     assert_eq!(full, before);
 }
 
@@ -116,10 +112,8 @@ fn each_number_by_its_name() {
     assert_eq!(Mark::ALL.map(|mark| wear.lines_with(mark)), [7, 6, 5, 4, 3]);
     assert_eq!(wear.lines_with(Mark::Other(5)), 0);
     assert_eq!(wear.lines_with(Mark::Other(255)), 0);
-    let counted = [Answer::Done, Answer::Left, Answer::Differs];
-    assert_eq!(counted.map(|answer| wear.stores_with(answer)), [3, 2, 1]);
-    assert_eq!(wear.stores_with(Answer::Faulty), 0);
-    assert_eq!(wear.stores_with(Answer::Wear), 0);
+    let counted = [Outcome::Done, Outcome::Left, Outcome::Differs];
+    assert_eq!(counted.map(|outcome| wear.stores_with(outcome)), [3, 2, 1]);
 }
 
 #[test]
@@ -139,8 +133,8 @@ fn ten_numbers_there_and_back() {
         for _ in 0..cases(300) {
             let broken = draw::wear::broken_by(&mut random, flaw);
             let numbers: [u64; 10] = broken.try_into().expect("ten numbers");
-            assert_eq!(Wear::from_numbers(numbers), Err(Answer::Wear), "{flaw:?}");
-            assert_eq!(Wear::try_from(numbers), Err(Answer::Wear), "{flaw:?}");
+            assert_eq!(Wear::from_numbers(numbers), Err(Refusal::Wear), "{flaw:?}");
+            assert_eq!(Wear::try_from(numbers), Err(Refusal::Wear), "{flaw:?}");
         }
     }
 }
@@ -182,7 +176,7 @@ fn a_text_is_ten_numbers_and_nothing_else() {
 #[test]
 fn a_person_reads_what_is_wrong() {
     assert_eq!(
-        Answer::Wear.to_string(),
+        Refusal::Wear.to_string(),
         "the numbers are no wear report, the report is full, or this is no result of a repair"
     );
     let says = |text: &str| Wear::from_text(text).expect_err("no report").to_string();
