@@ -14,7 +14,7 @@ ghost use lib.ListN.{length};
 ghost use Rattle.rectangle.specs.Tables.{TablesMade, makeTables};
 ghost use Rattle.rectangle.specs.Change.{LineChanged, changeLine};
 ghost use Rattle.rectangle.specs.Repair.{StoreRepaired, repairStore};
-ghost use Rattle.lookup.specs.Lookup.{OneRead, readOne};
+ghost use Rattle.local_decoding.specs.Lookup.{OneRead, readOne};
 ghost use Rattle.forecast.specs.Forecast.{Forecast, forecast};
 ghost use Rattle.tour.specs.Numbers.{NumbersAdded, addNumbers, compareNumbers};
 ghost use Rattle.storefile.specs.Header.{HeaderWritten, writeHeader};

@@ -13,7 +13,7 @@ use Rattle.rectangle.specs.Store.{readUnder, isCorrectUnder, bytesAt, placesAt,
 use Rattle.rectangle.specs.Refusals.{sideFits, sidesFit, holds, tablesFit, parityCorrect, acceptedAt, changeRefusal, repairRefusal, numberWith}
 use Rattle.rectangle.specs.Change.{changeLine}
 use Rattle.rectangle.specs.Repair.{usedGroups, repairedBy, tableAfter, handedOver, repairBy}
-use Rattle.lookup.specs.Lookup.{afterRow, lastStep, oneRefusal, readOne}
+use Rattle.local_decoding.specs.Lookup.{afterRow, lastStep, oneRefusal, readOne}
 use Rattle.sampling.specs.Rows.{clean, hurt, last, repairedWith, changedWith, readWith, all}
 use Rattle.sampling.proofs.Parts.{by-parts}
 use Rattle.cases.specs.Cases.{cases, parityCases, oneCases}

@@ -6,7 +6,7 @@ use native.Mathlib.Decide.{ℕ-discrete}
 use native.Mathlib.Omega.{arith}
 use lib.ListN.{length, getD, set, replicate, length-set, length-replicate, getD-replicate}
 use lib.Seq.{getD-set-same, getD-set-other, ext-getD}
-use Rattle.lookup.specs.Lookup.{zeroed}
+use Rattle.local_decoding.specs.Lookup.{zeroed}
 
 -- the first i bytes are zeros
 pub record Clearing (old buffer : List ℕ) (i : ℕ) : Type 0 where

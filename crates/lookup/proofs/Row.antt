@@ -29,9 +29,9 @@ use Rattle.groups.specs.declared.tracked.Which.{Which}
 use Rattle.groups.proofs.Numbers.{row-of}
 use Rattle.visiting.specs.Lent.{storeIn, Lent, groupAt, Untouched, Mended, Becomes}
 use Rattle.visiting.proofs.Stores.{store-length, store-at}
-use Rattle.lookup.specs.Lookup.{afterRow}
+use Rattle.local_decoding.specs.Lookup.{afterRow}
+use Rattle.local_decoding.proofs.Cells.{row-visited}
 use Rattle.lookup.specs.Lent.{Readable, ReadAlone, Wanted}
-use Rattle.lookup.proofs.Cells.{row-visited}
 
 module _ (rows columns : ℕ) (lines rowTable out₀ marks₀ : List ℕ) (n : ℕ) (w : Wanted rows columns lines rowTable out₀ marks₀ n) where
   pub some-columns : 0 < columns

@@ -14,9 +14,9 @@ use Rattle.scheme.specs.Visit.{cellAt}
 use Rattle.rectangle.specs.Store.{bytesAt, aloneAt, inBytes, putBytes}
 use Rattle.rectangle.specs.Refusals.{sidesFit, repairRefusal}
 use Rattle.rectangle.specs.Repair.{Buffers, repaired}
-use Rattle.lookup.specs.Lookup.{afterRow, lastStep, repairIn, oneRefusal, zeroed, OneRead, readOne}
-use Rattle.lookup.proofs.Cells.{alone-final, row-final, repaired-line, repaired-mark}
-use Rattle.lookup.proofs.Refusing.{OnePass, one-passes}
+use Rattle.local_decoding.specs.Lookup.{afterRow, lastStep, repairIn, oneRefusal, zeroed, OneRead, readOne}
+use Rattle.local_decoding.proofs.Refusing.{OnePass, one-passes}
+use Rattle.local_decoding.proofs.Cells.{alone-final, row-final, repaired-line, repaired-mark}
 
 -- ---- each step that is the last gives the line of the whole repair
 module _ (rows columns : ℕ) (lines rowTable columnTable : List ℕ) (sides : sidesFit rows columns ≡ true) (n : ℕ)
@@ -110,11 +110,3 @@ module _ (rows columns : ℕ) (lines rowTable columnTable : List ℕ) (n : ℕ) 
           l ∙ whole-line line (read .line) (p .lineBytes)
           ∙ ap (λ (x : Reading). x .line) read-is
           ∙ sym (repaired-line rows columns lines rowTable columnTable work (p .ofRepair) n (p .inside))
-
--- a refusal writes nothing
-pub one-refused : (rows columns : ℕ) (lines rowTable columnTable : List ℕ) (n : ℕ) (work : Buffers) (line : List ℕ) (answer : ℕ)
-    → answer ≡ oneRefusal rows columns lines rowTable columnTable n work line → (answer ≡ 0 → ⊥)
-    → _≡_ {A = OneRead} (record { answer = answer; step = 0; mark = 0; line = line; work = work })
-    (readOne rows columns lines rowTable columnTable n work line)
-unfolding readOne
-one-refused rows columns lines rowTable columnTable n work line answer e d = rw (sym e, ne-eqb answer 0 d)

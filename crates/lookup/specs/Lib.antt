@@ -1,4 +1,2 @@
--- One line wanted during the show (request Q-4): read Lookup, then Promises. Lent is for the functions.
-pub mod Lookup
-pub mod Promises
+-- What the functions of a read of one line ask of what is lent, and what they leave in it.
 pub mod Lent

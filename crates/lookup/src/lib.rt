@@ -1,4 +1,5 @@
-// One line wanted during the show: it is read alone, then by its row's visit, and only if both fail by the whole repair. Request Q-4.
+// One line wanted during the show (request Q-4): it is read alone, then by its row's visit, and only if both fail by the whole repair.
+// Definition and promises are in `local_decoding`.
 ghost use mathlib.Core.Path.{_≡_};
 ghost use mathlib.Core.Bool.{cond};
 ghost use Prim.Native.Nat.{_*_, _/_, _<_};
@@ -7,7 +8,7 @@ ghost use Rattle.scheme.specs.Visit.{cellAt};
 ghost use Rattle.rectangle.specs.Store.{inBytes};
 ghost use Rattle.rectangle.specs.Refusals.{repairRefusal};
 ghost use Rattle.rectangle.specs.Repair.{repaired};
-ghost use Rattle.lookup.specs.Lookup.{afterRow, lastStep, oneRefusal, zeroed, OneRead, readOne};
+ghost use Rattle.local_decoding.specs.Lookup.{afterRow, lastStep, oneRefusal, zeroed, OneRead, readOne};
 ghost use Rattle.lookup.specs.Lent.{Readable, ReadAlone, Wanted};
 use groups::tracked::Which;
 use linecode::alone::Reading;

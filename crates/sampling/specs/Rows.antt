@@ -12,7 +12,7 @@ use Rattle.linecode.specs.Before.{readBefore}
 use Rattle.linecode.specs.Entry.{written}
 use Rattle.rectangle.specs.Change.{LineChanged, changeLine}
 use Rattle.rectangle.specs.Repair.{StoreRepaired, repairStore}
-use Rattle.lookup.specs.Lookup.{OneRead, readOne}
+use Rattle.local_decoding.specs.Lookup.{OneRead, readOne}
 
 -- a store of two rows and two columns: its lines, and the parity lines of its rows and of its columns
 pub record Store : Type 0 where

@@ -4,7 +4,7 @@ use borrow.Author.Needs.{needs}
 use mathlib.Core.Path.{ap, _∙_}
 use Prim.Native.Nat.{ℕ}
 use lib.ListN.{replicate}
-use Rattle.lookup.proofs.Refusing.{one-passes}
+use Rattle.local_decoding.proofs.Refusing.{one-passes}
 use Rattle.lookup.proofs.Steps.{one-read}
 use Rattle.lookup.proofs.read_fitting.Statement.{statement}
 use Rattle.lookup.proofs.read_fitting.Tie as tie

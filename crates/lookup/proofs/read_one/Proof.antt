@@ -1,6 +1,6 @@
 -- `lookup::read_one` meets its contract.
 use borrow.Author.Needs.{needs}
-use Rattle.lookup.proofs.Steps.{one-refused}
+use Rattle.local_decoding.proofs.Refusing.{one-refused}
 use Rattle.lookup.proofs.read_one.Statement.{statement}
 use Rattle.lookup.proofs.read_one.Tie as tie
 

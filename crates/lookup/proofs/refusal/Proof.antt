@@ -4,7 +4,7 @@ use borrow.Author.Needs.{needs}
 use mathlib.Core.Path.{sym, _∙_}
 use Rattle.rectangle.proofs.Area.{area}
 use Rattle.repair.proofs.Refusing.{repair-passes}
-use Rattle.lookup.proofs.Refusing.{refused-by-repair, refused-line, refused-number, nothing-refused}
+use Rattle.local_decoding.proofs.Refusing.{refused-by-repair, refused-line, refused-number, nothing-refused}
 use Rattle.lookup.proofs.refusal.Statement.{statement}
 use Rattle.lookup.proofs.refusal.Tie as tie
 

@@ -28,7 +28,7 @@ use Rattle.rectangle.proofs.Groups.{sides, in-row, row-number, row-inside, row-
 use Rattle.rectangle.proofs.Members.{upFrom-bounds, upFrom-split}
 use Rattle.rectangle.proofs.Runs.{repair-runs}
 use Rattle.demands.proofs.Handed.{line-handed, mark-handed}
-use Rattle.lookup.specs.Lookup.{afterRow, repairIn}
+use Rattle.local_decoding.specs.Lookup.{afterRow, repairIn}
 
 -- the lines of a group as read are among its lines
 read-members : (g : Group) (n : ℕ) → n ∈ asRead lineLayer g .members → n ∈ g .members

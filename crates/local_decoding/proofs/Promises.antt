@@ -25,11 +25,10 @@ use Rattle.demands.proofs.Refused as Repairs
 use Rattle.demands.proofs.Left.{elevenIsLeft}
 use Rattle.demands.proofs.Sound.{givenCorrect}
 use Rattle.demands.proofs.Kept.{faultyAsFound, noWrongLine, exactReturn}
-use Rattle.lookup.specs.Lookup.{afterRow, lastStep, oneRefusal, oneAnswers, givenBy, readOne}
-use Rattle.lookup.specs.Promises.{readIn, Done, lineWith, AsRepairGives, OneAsRepair, StepTells, StepsTell, OneRefused, OneSafe}
-use Rattle.lookup.proofs.Refusing.{OnePass, one-passes, nothing-refused}
-use Rattle.lookup.proofs.Steps.{one-refused as one-refused-as}
-use Rattle.lookup.proofs.Cells.{alone-final, alone-visited, row-final, repaired-line, repaired-mark-or, repaired-mark}
+use Rattle.local_decoding.specs.Lookup.{afterRow, lastStep, oneRefusal, oneAnswers, givenBy, readOne}
+use Rattle.local_decoding.specs.Promises.{readIn, Done, lineWith, AsRepairGives, OneAsRepair, StepTells, StepsTell, OneRefused, OneSafe}
+use Rattle.local_decoding.proofs.Refusing.{OnePass, one-passes, nothing-refused, one-refused as one-refused-as}
+use Rattle.local_decoding.proofs.Cells.{alone-final, alone-visited, row-final, repaired-line, repaired-mark-or, repaired-mark}
 
 -- two numbers that differ
 never : {A : Type 0} {x y : ℕ} → eqb x y ≡ false → x ≡ y → A

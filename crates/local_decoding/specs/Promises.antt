@@ -13,7 +13,7 @@ use Rattle.scheme.specs.Demand3.{_∈_}
 use Rattle.rectangle.specs.Store.{lineLayer, bytesAt, placesAt, aloneAt, inBytes}
 use Rattle.rectangle.specs.Repair.{Buffers, handsOver}
 use Rattle.demands.specs.Demands.{Rectangle, count, Room, repairOf, Written, WithinBounds, DamagedSo}
-use Rattle.lookup.specs.Lookup.{afterRow, oneAnswers, allZeroed, OneRead, readOne}
+use Rattle.local_decoding.specs.Lookup.{afterRow, oneAnswers, allZeroed, OneRead, readOne}
 
 -- the entry point on a rectangle
 unfoldable pub readIn : Rectangle → ℕ → Buffers → List ℕ → OneRead
