@@ -82,7 +82,7 @@
  *         sudoku_store_line(&store, 3)[0] ^= 3;
  *         if (sudoku_store_repair(&store, &out, marks, &passes) != SUDOKU_DONE)
  *             return 1;
- *         printf("%s: %s\n", (const char *)sudoku_store_line(&out, 3), sudoku_mark_text(marks[3]));
+ *         printf("%.*s: %s\n", SUDOKU_DATA_BYTES, (const char *)sudoku_store_line(&out, 3), sudoku_mark_text(marks[3]));
  *         return memcmp(sudoku_store_line(&out, 3), data, sizeof data) == 0 ? 0 : 1;
  *     }
  */
@@ -410,7 +410,7 @@ static inline size_t sudoku_store_column_bytes(const struct sudoku_store *store)
     return sudoku_store_count(store) == 0 ? 0 : SUDOKU_TABLE_BYTES(store->columns);
 }
 
-/* Where line `n` stands, 70 bytes; null if there is no such line. */
+/* Where line `n` stands, 70 bytes; null if there is no such line. It is no string: a caption of 64 bytes has no zero after it. */
 static inline uint8_t *sudoku_store_line(const struct sudoku_store *store, size_t n)
 {
     return n < sudoku_store_count(store) ? store->lines + n * SUDOKU_LINE_BYTES : NULL;
@@ -594,6 +594,16 @@ static inline uint32_t sudoku_store_wear(const struct sudoku_store *store, const
     if (count == 0)
         return SUDOKU_SIDES;
     return sudoku_wear_add(wear, SUDOKU_WEAR_NUMBERS, marks, count, answer);
+}
+
+/*
+ * Compares the shares of rebuilt lines of two wear reports: sudoku_wear_compare.
+ *
+ * Answers: 0; 15.
+ */
+static inline uint32_t sudoku_wear_order(const uint64_t a[SUDOKU_WEAR_NUMBERS], const uint64_t b[SUDOKU_WEAR_NUMBERS], uint32_t *order)
+{
+    return sudoku_wear_compare(a, SUDOKU_WEAR_NUMBERS, b, SUDOKU_WEAR_NUMBERS, order);
 }
 
 /* What an answer says, in a few words for people. */

@@ -7,11 +7,11 @@ captions=$root/rust/target/release/captions
 log=$root/target/$me.log
 log_begun=
 
-# Whether a file is there and nothing that it is made from is newer.
+# Whether a file is there and nothing that it is made from is newer; a folder is where something in it was added or removed.
 up_to_date() { # FILE WHAT IT IS MADE FROM..
     made=$1
     shift
-    [ -f "$made" ] && [ -z "$(find "$@" -newer "$made" -type f | head -n 1)" ]
+    [ -f "$made" ] && [ -z "$(find "$@" -newer "$made" | head -n 1)" ]
 }
 
 # Keeps in the log what a tool says, shows its line for each crate as it comes, and returns the tool's status.
@@ -37,16 +37,19 @@ begin_log() {
     log_begun=yes
 }
 
-# Runs a tool in a folder to make a file. That counts as made now, also where the tool found nothing to do.
+# Runs a tool in a folder to make a file. That counts as made when the tool began, also where it found nothing to do: what is changed
+# meanwhile is newer.
 run_tool() { # FILE FOLDER TOOL WORDS..
     file=$1
     folder=$2
     shift 2
     begin_log
+    (: >"$log.begun")
     { (cd "$folder" && "$@") </dev/null 2>&1 && echo "the tool's status: 0" || echo "the tool's status: $?"; } | follow \
         || fail 1 "it could not be built; target/$me.log says why"
     [ -f "$file" ] || fail 1 "it could not be built: there is no '$file'; target/$me.log may say why"
-    touch "$file"
+    touch -r "$log.begun" "$file"
+    rm -f "$log.begun"
 }
 
 need() { # COMMAND WHAT IT IS

@@ -331,6 +331,22 @@ static void bad_stores(void)
     CHECK(UNTOUCHED(out) && UNTOUCHED(marks) && UNTOUCHED(row_out) && UNTOUCHED(column_out) && INTACT(file));
 }
 
+/* One of four lines rebuilt, one of five, and none at all; five lines of which the marks add up to four are no report. */
+static void wear_order(void)
+{
+    static const uint64_t quarter[SUDOKU_WEAR_NUMBERS] = {1, 4, 3, 0, 0, 1, 0, 1, 0, 0};
+    static const uint64_t fifth[SUDOKU_WEAR_NUMBERS] = {1, 5, 4, 0, 0, 1, 0, 1, 0, 0};
+    static const uint64_t nothing[SUDOKU_WEAR_NUMBERS] = {0}, wrong[SUDOKU_WEAR_NUMBERS] = {1, 5, 3, 0, 0, 1, 0, 1, 0, 0};
+    uint32_t order = 77;
+
+    CHECK(sudoku_wear_order(quarter, fifth, &order) == SUDOKU_DONE && order == SUDOKU_ORDER_GREATER);
+    CHECK(sudoku_wear_order(fifth, quarter, &order) == SUDOKU_DONE && order == SUDOKU_ORDER_LESS);
+    CHECK(sudoku_wear_order(fifth, fifth, &order) == SUDOKU_DONE && order == SUDOKU_ORDER_EQUAL);
+    CHECK(sudoku_wear_order(nothing, fifth, &order) == SUDOKU_DONE && order == SUDOKU_ORDER_LESS);
+    order = 77;
+    CHECK(sudoku_wear_order(fifth, wrong, &order) == SUDOKU_WEAR && order == 0);
+}
+
 int main(void)
 {
     sizes();
@@ -343,6 +359,7 @@ int main(void)
     reading();
     reading_refusals();
     bad_stores();
+    wear_order();
     printf("C stores: %d checks, %d failed\n", checks, failures);
     return failures == 0 ? 0 : 1;
 }
