@@ -35,5 +35,5 @@ copy_repository() { # FOLDER
     for file in captions/main.rs sudoku/src/lib.rs Cargo.toml Cargo.lock; do
         : >"$1/rust/$file"
     done
-    find "$1" -type f -exec touch -t 202001010000 {} +
+    find "$1" -exec touch -t 202001010000 {} +
 }

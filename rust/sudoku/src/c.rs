@@ -13,12 +13,14 @@ pub use file::{Check, Layout, bytes_needed, check_file, open_file, write_header}
 // so that a value which it failed to set is seen.
 
 /// Writes the line of some data; gives the answer.
+#[must_use]
 pub fn write_line(data: &[u8], line: &mut [u8]) -> u32 {
     // SAFETY: see above.
     unsafe { declared::sudoku_write_line(data.as_ptr(), data.len(), line.as_mut_ptr(), line.len()) }
 }
 
 /// Reads one line alone; gives the answer and the mark.
+#[must_use]
 pub fn read_line(line: &[u8], out: &mut [u8]) -> (u32, u8) {
     let mut mark = 0xEE;
     // SAFETY: see above.
@@ -35,6 +37,7 @@ pub fn read_line(line: &[u8], out: &mut [u8]) -> (u32, u8) {
 }
 
 /// Makes both parity tables; gives the answer.
+#[must_use]
 pub fn make_tables(
     rows: usize,
     columns: usize,
@@ -59,6 +62,7 @@ pub fn make_tables(
 
 /// Changes line `n` with its two parity lines; gives the answer, and the number
 /// of the line's row or column if that one's parity line is bad, otherwise 0.
+#[must_use]
 pub fn change_line(
     rows: usize,
     columns: usize,
@@ -103,6 +107,7 @@ pub struct Out<'a> {
 }
 
 /// Repairs a rectangle; gives the answer and the passes.
+#[must_use]
 pub fn repair(
     rows: usize,
     columns: usize,
@@ -141,6 +146,7 @@ pub fn repair(
 /// whole; gives the answer, the line's mark and the last step taken.
 ///
 /// After the answers 0 and 11 the work buffers are all zero.
+#[must_use]
 #[allow(clippy::too_many_arguments)]
 pub fn read_one(
     rows: usize,
@@ -184,6 +190,7 @@ pub fn read_one(
 
 /// Works out what rebuilding alone would make of a list of faulty lines: `faulty`
 /// has a byte for each line, 0 if it is whole. Gives the answer and the passes.
+#[must_use]
 pub fn forecast(rows: usize, columns: usize, faulty: &[u8], marks: &mut [u8]) -> (u32, u64) {
     let mut passes = u64::MAX;
     // SAFETY: see above.
@@ -203,6 +210,7 @@ pub fn forecast(rows: usize, columns: usize, faulty: &[u8], marks: &mut [u8]) ->
 
 /// Takes the marks and the answer of one repair into a report of ten numbers;
 /// gives the answer. A refusal leaves the numbers as they were.
+#[must_use]
 pub fn wear_add(wear: &mut [u64], marks: &[u8], answer: u32) -> u32 {
     // SAFETY: see above.
     unsafe {
@@ -218,6 +226,7 @@ pub fn wear_add(wear: &mut [u64], marks: &[u8], answer: u32) -> u32 {
 
 /// Compares the shares of rebuilt lines of two reports of ten numbers; gives the
 /// answer and the order: 0 equal, 1 the first is smaller, 2 greater.
+#[must_use]
 pub fn wear_compare(a: &[u64], b: &[u64]) -> (u32, u32) {
     let mut order = u32::MAX;
     // SAFETY: see above.

@@ -1,6 +1,7 @@
 //! Why a store file can't be had.
 
 use std::error::Error;
+use std::fs::File;
 use std::{fmt, io};
 
 use crate::{HEADER_BYTES, Refusal, c};
@@ -69,6 +70,34 @@ impl FileError {
         }
     }
 
+    /// The same, and where a file is too long, its length: a reader stops at the
+    /// first byte that should not be there, and so can't tell it. Where the file
+    /// system can't either, as of a pipe, the error stays as it is.
+    ///
+    /// For a file that was read from its start by another way than
+    /// [`Store::open`](crate::Store::open), which does this itself:
+    ///
+    /// ```no_run
+    /// use std::fs::File;
+    /// use sudoku::Store;
+    /// let file = File::open("show.store")?;
+    /// let store = Store::read_from(&file).map_err(|error| error.with_length_of(&file))?;
+    /// # Ok::<(), sudoku::FileError>(())
+    /// ```
+    #[must_use]
+    pub fn with_length_of(mut self, file: &File) -> FileError {
+        if let FileError::Length {
+            expected,
+            found: found @ None,
+            ..
+        } = &mut self
+        {
+            let length = file.metadata().ok().map(|metadata| metadata.len());
+            *found = length.filter(|length| length > expected);
+        }
+        self
+    }
+
     /// The library's refusal behind it; none if the file couldn't be read.
     #[must_use]
     pub fn refusal(&self) -> Option<Refusal> {
@@ -121,7 +150,9 @@ impl fmt::Display for FileError {
 impl Error for FileError {
     fn source(&self) -> Option<&(dyn Error + 'static)> {
         match self {
-            FileError::Io(error) => Some(error),
+            // What is shown of it is the reader's error itself, so that the next
+            // one behind is that one's: who prints them all repeats nothing.
+            FileError::Io(error) => error.source(),
             _ => None,
         }
     }

@@ -1,10 +1,12 @@
 //! What repair gives.
 
+use std::fmt;
+
 use crate::{DATA_BYTES, Mark, NotWhole, Outcome, Store};
 
 /// What repair gives: [`Store::repair`].
 #[must_use]
-#[derive(Clone, Debug, PartialEq, Eq)]
+#[derive(Clone, PartialEq, Eq)]
 pub struct Repaired {
     /// Look at it before using a line: after [`Outcome::Differs`] none is to be
     /// trusted.
@@ -19,6 +21,18 @@ pub struct Repaired {
     pub marks: Vec<Mark>,
     /// How many lines have each mark.
     pub counts: Counts,
+}
+
+/// All but the marks of the single lines, of which there may be many.
+impl fmt::Debug for Repaired {
+    fn fmt(&self, f: &mut fmt::Formatter<'_>) -> fmt::Result {
+        f.debug_struct("Repaired")
+            .field("outcome", &self.outcome)
+            .field("passes", &self.passes)
+            .field("store", &self.store)
+            .field("counts", &self.counts)
+            .finish_non_exhaustive()
+    }
 }
 
 impl Repaired {

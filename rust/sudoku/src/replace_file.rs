@@ -19,7 +19,11 @@ const LINKS: usize = 40;
 /// The bytes go to a temporary file in the same folder. Only when the disk has
 /// them, that file takes the old one's name, with its permissions and, where the
 /// system allows it, its owner. If anything fails the temporary file is removed.
-/// An old file that may not be written is not replaced either.
+/// An old file that may not be written is not replaced either. A process that is
+/// killed in between may leave the temporary file behind: `.sudoku-*.tmp`.
+///
+/// The old file itself isn't changed: other names of it (hard links) keep the old
+/// content, and its access lists and extended attributes aren't carried over.
 ///
 /// Symbolic links stay: the file that they lead to is replaced. A device or a
 /// pipe can't be replaced, and the bytes are written into it.

@@ -6,6 +6,8 @@ mod repair;
 
 pub use lines::Lines;
 
+use std::fmt;
+
 use crate::{DATA_BYTES, HEADER_BYTES, LINE_BYTES, Refusal, c, count_of, write_line};
 
 /// Rows × columns of lines, and a parity line for each row and each column.
@@ -15,13 +17,30 @@ use crate::{DATA_BYTES, HEADER_BYTES, LINE_BYTES, Refusal, c, count_of, write_li
 /// stay so. The bytes of lines and tables may be anything:
 /// [`Store::line_bytes_mut`] and the like lend them out, as memory that may get
 /// damaged.
-#[derive(Clone, Debug, PartialEq, Eq)]
+#[derive(Clone, PartialEq, Eq)]
 pub struct Store {
     rows: usize,
     columns: usize,
     /// The file: the header that these sides require, lines, row table and
     /// column table.
     bytes: Vec<u8>,
+}
+
+/// Its sides and how many bytes it has, which may be millions.
+///
+/// ```
+/// let store = sudoku::Store::new(2, 3)?;
+/// assert_eq!(format!("{store:?}"), "Store { rows: 2, columns: 3, bytes: 798, .. }");
+/// # Ok::<(), sudoku::Refusal>(())
+/// ```
+impl fmt::Debug for Store {
+    fn fmt(&self, f: &mut fmt::Formatter<'_>) -> fmt::Result {
+        f.debug_struct("Store")
+            .field("rows", &self.rows)
+            .field("columns", &self.columns)
+            .field("bytes", &self.bytes.len())
+            .finish_non_exhaustive()
+    }
 }
 
 /// The parts of a store file.

@@ -64,6 +64,7 @@ impl Check {
 }
 
 /// Opens a store file; gives the answer, and where its parts stand.
+#[must_use]
 pub fn open_file(file: &[u8]) -> (u32, Layout) {
     let mut layout = Layout::UNSET;
     // SAFETY: see above, in `c`.
@@ -73,6 +74,7 @@ pub fn open_file(file: &[u8]) -> (u32, Layout) {
 
 /// Writes the 28 bytes that a store file of these sides begins with; gives the
 /// answer.
+#[must_use]
 pub fn write_header(rows: usize, columns: usize, header: &mut [u8]) -> u32 {
     // SAFETY: see above, in `c`.
     unsafe { declared::sudoku_write_header(rows, columns, header.as_mut_ptr(), header.len()) }
@@ -81,6 +83,7 @@ pub fn write_header(rows: usize, columns: usize, header: &mut [u8]) -> u32 {
 /// How many bytes of a store file have to be read to open or refuse it, if it
 /// begins with these: 28 where the header is refused already, and otherwise one
 /// more than it requires, to see that nothing follows.
+#[must_use]
 pub fn bytes_needed(start: &[u8]) -> usize {
     // SAFETY: see above, in `c`.
     unsafe { declared::sudoku_bytes_needed(start.as_ptr(), start.len()) }
@@ -88,6 +91,7 @@ pub fn bytes_needed(start: &[u8]) -> usize {
 
 /// Opens a store file, repairs its store and counts the marks; gives the answer
 /// and the counts.
+#[must_use]
 pub fn check_file(file: &[u8], out: Out) -> (u32, Check) {
     let mut check = Check::UNSET;
     // SAFETY: see above, in `c`.

@@ -51,8 +51,10 @@ impl Store {
         self.bytes
     }
 
-    /// Reads a store file to its end: its header, and then no more than the
-    /// header requires and one byte, so that a reader without an end is refused.
+    /// Reads a store file: 28 bytes of header, and no more where the header is
+    /// refused; otherwise on to the end, but at most one byte beyond what the
+    /// header requires, to see that nothing follows. So a reader without an end is
+    /// refused.
     ///
     /// ```
     /// use std::io;
@@ -95,7 +97,8 @@ impl Store {
         writer.flush()
     }
 
-    /// Reads the store file at this path, as [`Store::read_from`] does.
+    /// Reads the store file at this path, as [`Store::read_from`] does. A file that
+    /// is too long has its length told, though no more of it is read.
     ///
     /// ```no_run
     /// use sudoku::Store;
@@ -109,17 +112,7 @@ impl Store {
     /// [`FileError::Io`] if it can't be read; otherwise what is wrong with it.
     pub fn open(path: impl AsRef<Path>) -> Result<Store, FileError> {
         let file = File::open(path)?;
-        let mut read = Store::read_from(&file);
-        if let Err(FileError::Length {
-            expected, found, ..
-        }) = &mut read
-            && found.is_none()
-        {
-            // A file too long has its length told, though it wasn't read.
-            let length = file.metadata().ok().map(|metadata| metadata.len());
-            *found = length.filter(|length| length > expected);
-        }
-        read
+        Store::read_from(&file).map_err(|error| error.with_length_of(&file))
     }
 
     /// Writes this store to a file so that a crash leaves the old file or the new

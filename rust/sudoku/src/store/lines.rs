@@ -1,15 +1,24 @@
 //! The lines of a store, one after the other.
 
 use std::iter::FusedIterator;
-use std::slice;
+use std::{fmt, slice};
 
 use crate::{LINE_BYTES, Read, Refusal, Store, read_line};
 
 /// The lines of a store as they stand, row after row: [`Store::lines`].
 #[must_use = "iterators do nothing unless they are consumed"]
-#[derive(Clone, Debug)]
+#[derive(Clone)]
 pub struct Lines<'a> {
     left: slice::Iter<'a, [u8; LINE_BYTES]>,
+}
+
+/// How many lines are left.
+impl fmt::Debug for Lines<'_> {
+    fn fmt(&self, f: &mut fmt::Formatter<'_>) -> fmt::Result {
+        f.debug_struct("Lines")
+            .field("left", &self.left.len())
+            .finish_non_exhaustive()
+    }
 }
 
 impl<'a> Iterator for Lines<'a> {

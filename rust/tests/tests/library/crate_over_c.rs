@@ -92,6 +92,26 @@ fn words_for_people() {
     assert_eq!(Refusal::Other(9).to_string(), "unknown answer 9");
 }
 
+/// However large a store is, what a programmer sees of it fits a line.
+#[test]
+fn words_for_programmers() {
+    let largest = Store::new(512, 512).expect("the largest");
+    let due = "Store { rows: 512, columns: 512, bytes: 18421788, .. }";
+    assert_eq!(format!("{largest:?}"), due);
+    let mut lines = largest.lines();
+    assert!(lines.next().is_some());
+    assert_eq!(format!("{lines:?}"), "Lines { left: 262143, .. }");
+    // Two bits of one line turn over: a single pass rebuilds it.
+    let mut store = Store::new(2, 2).expect("two by two");
+    store.line_bytes_mut()[0] ^= 3;
+    assert_eq!(
+        format!("{:?}", store.repair()),
+        "Repaired { outcome: Done, passes: 1, \
+         store: Store { rows: 2, columns: 2, bytes: 588, .. }, \
+         counts: Counts { lines: [3, 0, 0, 1, 0] }, .. }"
+    );
+}
+
 #[test]
 fn repair_of_a_store() {
     let mut random = Random::new(seed());

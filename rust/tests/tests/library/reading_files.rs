@@ -3,6 +3,7 @@
 
 use std::cell::Cell;
 use std::error::Error;
+use std::fmt;
 use std::io::{self, BufReader, ErrorKind, Read, Write};
 
 use library_tests::{cases, file_bytes, seed};
@@ -223,12 +224,52 @@ fn a_reader_that_fails() {
         };
         assert_eq!(inner.kind(), ErrorKind::TimedOut);
         assert_eq!(error.to_string(), "the unit was pulled out");
-        assert!(error.source().is_some() && error.refusal().is_none());
+        assert!(error.source().is_none() && error.refusal().is_none());
     }
     // Where the header is refused, no more is asked for.
     let left = &[0; HEADER_BYTES];
     let error = Store::read_from(Failing { left }).expect_err("no store");
     assert_eq!(error.refusal(), Some(Refusal::Sides));
+}
+
+/// An error with one behind it.
+#[derive(Debug)]
+struct Pulled(io::Error);
+
+impl fmt::Display for Pulled {
+    fn fmt(&self, f: &mut fmt::Formatter<'_>) -> fmt::Result {
+        f.write_str("the unit was pulled out")
+    }
+}
+
+impl Error for Pulled {
+    fn source(&self) -> Option<&(dyn Error + 'static)> {
+        Some(&self.0)
+    }
+}
+
+/// What an error says, and each one behind it.
+fn chain(error: &dyn Error) -> Vec<String> {
+    let mut all = vec![error.to_string()];
+    let mut behind = error.source();
+    while let Some(error) = behind {
+        all.push(error.to_string());
+        behind = error.source();
+    }
+    all
+}
+
+#[test]
+fn each_error_behind_another_is_told_once() {
+    let cable = io::Error::new(ErrorKind::BrokenPipe, "no cable");
+    let pulled = io::Error::new(ErrorKind::TimedOut, Pulled(cable));
+    let due = ["the unit was pulled out", "no cable"];
+    assert_eq!(chain(&FileError::from(pulled)), due);
+    // One with nothing behind it stands alone.
+    let plain = FileError::from(io::Error::from(ErrorKind::TimedOut));
+    assert_eq!(chain(&plain), ["timed out"]);
+    let missing = Store::open("/missing.store").expect_err("no file");
+    assert_eq!(chain(&missing), ["No such file or directory (os error 2)"]);
 }
 
 /// Takes so many bytes, a few at a time, and says how often it was flushed.

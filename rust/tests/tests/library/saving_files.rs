@@ -2,7 +2,8 @@
 //! the new one stands there and never a part.
 
 use std::fs::{self, File, Permissions};
-use std::io::ErrorKind;
+use std::io::{self, ErrorKind, Write};
+use std::os::fd::OwnedFd;
 use std::os::unix::fs::{FileTypeExt, MetadataExt, PermissionsExt, chown, symlink};
 use std::path::{Path, PathBuf};
 use std::sync::atomic::{AtomicBool, Ordering};
@@ -126,6 +127,58 @@ fn files_that_are_no_store() {
     }
     let endless = Store::open("/dev/zero").expect_err("no store");
     assert_eq!(endless.refusal(), Some(Refusal::Sides));
+}
+
+/// What is told of a file that was read by its handle.
+#[test]
+fn the_length_of_a_file_too_long() {
+    let folder = Folder::new("too-long");
+    let file_of = |length: usize| {
+        let mut bytes = Drawn::zero(2, 2).file();
+        bytes.resize(length, 0);
+        let path = folder.join("wrong.store");
+        fs::write(&path, bytes).expect("written");
+        File::open(&path).expect("a file")
+    };
+    let found = |error: FileError| match error {
+        FileError::Length { found, .. } => found,
+        other => panic!("{other}"),
+    };
+    let read = |file: &File| Store::read_from(file).expect_err("no store");
+    for length in [589, 100_000] {
+        let file = file_of(length);
+        assert_eq!(
+            found(read(&file).with_length_of(&file)),
+            Some(length as u64)
+        );
+    }
+    // What is known stays, whatever became of the file since.
+    let short = read(&file_of(587));
+    let long = file_of(589);
+    assert_eq!(found(short.with_length_of(&long)), Some(587));
+    // Of one that isn't too long any more no length is told.
+    let too_long = read(&long);
+    let cut = file_of(588);
+    assert_eq!(found(too_long.with_length_of(&cut)), None);
+    // Another flaw stays as it is.
+    let error = Store::from_bytes(vec![]).expect_err("no store");
+    let error = error.with_length_of(&cut);
+    assert!(matches!(error, FileError::Short { bytes: 0 }), "{error}");
+}
+
+/// A pipe has no length, so that nobody knows how much follows.
+#[test]
+fn a_pipe_with_too_much() {
+    let (from, mut to) = io::pipe().expect("a pipe");
+    let file = Drawn::zero(2, 2).file();
+    to.write_all(&file).expect("written");
+    to.write_all(&[0; 100]).expect("written");
+    let from = File::from(OwnedFd::from(from));
+    let error = Store::read_from(&from).expect_err("no store");
+    assert_eq!(
+        error.with_length_of(&from).to_string(),
+        "too long: 2 rows and 2 columns take 588 bytes, the file has more"
+    );
 }
 
 /// Permission bits of a file.
