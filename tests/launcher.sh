@@ -128,6 +128,8 @@ same "its standard error" "to standard error;" "$(said)"
 same "its input" "a${nl}b<input>" "$(printf 'a\nb' | PATH=$room/plain "$launcher" input)"
 pid=$(PATH=$room/plain sh -c 'echo $$; exec "$1" pid' - "$launcher" | tr '\n' ' ')
 same "the launcher becomes the program" "${pid%% *}" "$(echo "$pid" | cut -d ' ' -f 2 | cut -d '<' -f 1)"
+PATH=$room/plain "$launcher" one >&- 2>"$room/said"
+same "closed output" "1 captions: standard output is closed" "$? $(cat "$room/said")"
 ln -s "$launcher" "$room/linked"
 same "through a link, from elsewhere" "<one>" "$(cd "$room" && PATH=$room/plain ./linked one)"
 

@@ -113,6 +113,7 @@ impl Arguments {
         let Some(switch) = found else {
             return Err(Failure::call(format!("no option {}", Quoted(word))));
         };
+        switch.must_not_be_assigned(word)?;
         if self.has(switch.long) {
             return Err(Failure::call(format!("{} is given twice", switch.long)));
         }
@@ -186,6 +187,16 @@ impl Display for Limits<'_> {
 }
 
 impl Switch {
+    /// Refuses `-o=FILE`, of which nobody can tell whether the file is `=FILE`.
+    fn must_not_be_assigned(&self, word: &OsStr) -> Result<(), Failure> {
+        match (self.short, word.as_bytes()) {
+            (Some(short), [b'-', _, b'=', ..]) => Err(Failure::call(format!(
+                "{short} takes its file as {short} FILE"
+            ))),
+            _ => Ok(()),
+        }
+    }
+
     fn is(&self, name: &[u8]) -> bool {
         self.long.as_bytes() == name || self.short.is_some_and(|short| short.as_bytes() == name)
     }
@@ -198,10 +209,7 @@ impl Form {
             return Err(Failure::call(format!("no {missing} is given")));
         }
         match operands.get(self.operands.len()) {
-            Some(extra) if !self.many => Err(Failure::call(format!(
-                "{} is one argument too many",
-                Quoted(extra)
-            ))),
+            Some(extra) if !self.many => Err(Failure::too_many(extra)),
             _ => Ok(()),
         }
     }
@@ -222,6 +230,20 @@ fn split(word: &OsStr) -> (&[u8], Option<&OsStr>) {
         )
     };
     (name.unwrap_or(bytes), value.map(OsStr::from_bytes))
+}
+
+/// Refuses an empty word as the name of a file.
+///
+/// # Errors
+///
+/// [`Failure::Call`] if it is empty.
+pub fn must_be_named(what: &str, word: &OsStr) -> Result<(), Failure> {
+    if word.is_empty() {
+        return Err(Failure::call(format!(
+            "{what}: the name of a file is empty"
+        )));
+    }
+    Ok(())
 }
 
 /// The number that a word of digits is; the greatest there is, if it is greater.
@@ -315,6 +337,8 @@ mod tests {
         assert_eq!(wrong("a -o b --output=c"), "--output is given twice");
         assert_eq!(wrong("a --json=yes"), "--json takes no value");
         assert_eq!(wrong("a -o"), "--output needs a value");
+        assert_eq!(wrong("a -o=b"), "-o takes its file as -o FILE");
+        assert_eq!(wrong("a -o="), "-o takes its file as -o FILE");
         assert_eq!(wrong("--json"), "no FILE is given");
         assert_eq!(wrong("a b c"), "'c' is one argument too many");
     }

@@ -9,7 +9,7 @@ use crate::arguments::{Arguments, Form};
 use crate::failure::{Failure, Status};
 use crate::output::Console;
 use crate::show::{must_have, number};
-use crate::shown::{Cue, caption};
+use crate::shown::{Cue, caption, shell_word};
 use crate::source::Source;
 use crate::target::replace;
 use crate::text::{Data, clean, data};
@@ -28,7 +28,7 @@ pub const SUBCOMMAND: Subcommand = Subcommand {
 };
 
 fn run(mut arguments: Arguments, console: &mut Console) -> Result<Status, Failure> {
-    let source = Source::new(arguments.operand());
+    let source = Source::new(arguments.operand())?;
     let Source::File(path) = &source else {
         return Err(Failure::call(
             "a file is changed, and standard input is none",
@@ -73,7 +73,8 @@ fn advice(source: &Source, store: &Store, number: usize, text: &Data) -> String 
     let mut repaired = store.repair();
     let agrees = repaired.outcome != Outcome::Differs;
     if agrees && repaired.store.change(number, text).is_ok() {
-        return format!("run captions repair {source} --in-place first");
+        let file = shell_word(source.word());
+        return format!("run captions repair {file} --in-place first");
     }
     "captions repair cannot mend it, so make the store anew from its text".to_string()
 }

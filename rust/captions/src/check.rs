@@ -97,7 +97,7 @@ impl Manner {
     fn start(self) -> &'static str {
         match self {
             Manner::Words(_) => "",
-            Manner::Json => "[",
+            Manner::Json => "[\n",
         }
     }
 
@@ -112,7 +112,8 @@ impl Manner {
         match (self, found) {
             (Manner::Json, _) => {
                 let (file, found) = (source.word(), found.as_ref());
-                console.print(format_args!("{}\n{}", comma(others), Entry { file, found }))
+                // Each in a line of its own, since messages may come between them.
+                console.print(format_args!("{}{}\n", comma(others), Entry { file, found }))
             }
             // Of files that are refused a message tells.
             (Manner::Words(_), Err(_)) => Ok(()),
@@ -147,7 +148,7 @@ impl Manner {
                 format!("{blank}{tally}\n")
             }
             Manner::Words(_) => String::new(),
-            Manner::Json => "\n]\n".to_string(),
+            Manner::Json => "]\n".to_string(),
         }
     }
 }

@@ -1,8 +1,11 @@
 //! How a run ends: its exit status, and why it may end early.
 
+use std::ffi::OsStr;
 use std::fmt::{self, Display, Formatter};
 use std::io;
 use std::process::ExitCode;
+
+use crate::arguments::Quoted;
 
 /// How a run ended. Of two, the greater one counts.
 #[must_use]
@@ -54,6 +57,11 @@ impl Failure {
     /// A wrong call.
     pub fn call(words: impl Display) -> Failure {
         Failure::Call(words.to_string())
+    }
+
+    /// A call with this word, for which there is no place.
+    pub fn too_many(word: &OsStr) -> Failure {
+        Failure::call(format!("{} is one argument too many", Quoted(word)))
     }
 
     /// What is wrong with the file, or with whatever else has this name.

@@ -31,7 +31,7 @@ pub const SUBCOMMAND: Subcommand = Subcommand {
 const USUAL_SEED: u64 = 1;
 
 fn run(mut arguments: Arguments, console: &mut Console) -> Result<Status, Failure> {
-    let source = Source::new(arguments.operand());
+    let source = Source::new(arguments.operand())?;
     let bits = arguments.number("--bits", 1..=u64::MAX)?;
     let bits = bits.ok_or_else(|| Failure::call("no --bits N is given"))?;
     let seed = arguments.number("--seed", 0..=u64::MAX)?;

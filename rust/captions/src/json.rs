@@ -8,7 +8,7 @@ use sudoku::{FileError, Mark, Repaired};
 use crate::failure::Reason;
 use crate::lost::{Lost, lost};
 use crate::marks::meaning;
-use crate::shown::caption;
+use crate::shown::is_hidden;
 
 /// A text as JSON writes it, in quotes.
 struct Text<'a>(&'a str);
@@ -19,7 +19,7 @@ impl Display for Text<'_> {
         for char in self.0.chars() {
             match char {
                 '"' | '\\' => write!(f, "\\{char}")?,
-                char if char.is_control() => write!(f, "\\u{:04x}", u32::from(char))?,
+                char if is_hidden(char) => write!(f, "\\u{:04x}", u32::from(char))?,
                 char => f.write_char(char)?,
             }
         }
@@ -100,7 +100,7 @@ fn write_lost(f: &mut Formatter<'_>, lost: &Lost<'_>) -> fmt::Result {
     write!(f, "{{\"number\":{number},\"cue\":{}", number + 1)?;
     write!(f, ",\"row\":{},\"column\":{}", place.row(), place.column())?;
     match lost.after {
-        Some(data) => write!(f, ",\"after\":{}}}", Text(&caption(data).to_string())),
+        Some(text) => write!(f, ",\"after\":{}}}", Text(&text.to_string())),
         None => f.write_str(",\"after\":null}"),
     }
 }
@@ -123,8 +123,8 @@ mod tests {
 
     #[test]
     fn texts_are_escaped() {
-        let text = Text("say \"\\\" \n\u{7f}\u{9b} ’").to_string();
-        assert_eq!(text, r#""say \"\\\" \u000a\u007f\u009b ’""#);
+        let text = Text("say \"\\\" \n\u{7f}\u{9b}\u{2028} ’").to_string();
+        assert_eq!(text, r#""say \"\\\" \u000a\u007f\u009b\u2028 ’""#);
     }
 
     #[test]

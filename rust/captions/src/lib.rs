@@ -19,6 +19,7 @@ pub mod lost;
 pub mod make;
 pub mod marks;
 pub mod output;
+pub mod parity;
 pub mod picture;
 pub mod progress;
 pub mod random;
@@ -35,7 +36,7 @@ pub mod terminal;
 pub mod text;
 pub mod wear;
 
-use std::ffi::OsString;
+use std::ffi::{OsStr, OsString};
 
 use arguments::{Arguments, Asked, Form, Quoted};
 use failure::{Failure, Status};
@@ -82,7 +83,7 @@ pub fn run(words: impl IntoIterator<Item = OsString>) -> Status {
     done.unwrap_or_else(|failure| end(&failure, name, &mut console))
 }
 
-fn subcommand(name: &std::ffi::OsStr) -> Option<Subcommand> {
+fn subcommand(name: &OsStr) -> Option<Subcommand> {
     let mut subcommands = SUBCOMMANDS.into_iter();
     subcommands.find(|subcommand| subcommand.form.name == name)
 }
@@ -107,29 +108,29 @@ fn other(
     let text = match first.to_str() {
         Some("--help" | "-h") => help::HELP,
         Some("--version") => help::VERSION,
-        Some("help") => help_on(words.next(), words.next())?,
-        _ => {
-            let words = format!("no subcommand {}", Quoted(&first));
-            return Err(Failure::Call(words));
-        }
+        Some("help") => help_on(words.next())?,
+        _ => return Err(no_subcommand(&first)),
     };
+    if let Some(extra) = words.next() {
+        return Err(Failure::too_many(&extra));
+    }
     console.print(text).map(|()| Status::Whole)
 }
 
 /// The help on a subcommand, or on all of them.
-fn help_on(topic: Option<OsString>, extra: Option<OsString>) -> Result<&'static str, Failure> {
-    if let Some(extra) = extra {
-        let words = format!("{} is one argument too many", Quoted(&extra));
-        return Err(Failure::Call(words));
-    }
+fn help_on(topic: Option<OsString>) -> Result<&'static str, Failure> {
     let Some(topic) = topic else {
         return Ok(help::HELP);
     };
     match (subcommand(&topic), topic.to_str()) {
         (Some(found), _) => Ok(found.help),
         (None, Some("help" | "--help" | "-h")) => Ok(help::HELP),
-        _ => Err(Failure::Call(format!("no subcommand {}", Quoted(&topic)))),
+        _ => Err(no_subcommand(&topic)),
     }
+}
+
+fn no_subcommand(word: &OsStr) -> Failure {
+    Failure::call(format!("no subcommand {}", Quoted(word)))
 }
 
 /// Tells why a run ended early.

@@ -4,7 +4,7 @@ use std::fmt::{self, Display, Formatter};
 
 use sudoku::{DATA_BYTES, Mark, Repaired, Store};
 
-use crate::shown::{Place, caption, filled};
+use crate::shown::{Place, Text, filled};
 
 /// So many of them are named.
 const MOST_NAMED: usize = 100;
@@ -14,15 +14,16 @@ const MOST_NAMED: usize = 100;
 pub struct Lost<'a> {
     /// Where it stands.
     pub place: Place,
-    /// The data of the last caption before it that is whole and not empty.
-    pub after: Option<&'a [u8]>,
+    /// The text of the last caption before it that is whole and not empty, without
+    /// spaces at its end.
+    pub after: Option<Text<'a>>,
 }
 
 impl Display for Lost<'_> {
     fn fmt(&self, f: &mut Formatter<'_>) -> fmt::Result {
         self.place.fmt(f)?;
         match self.after {
-            Some(data) => write!(f, ", after \"{}\"", caption(data)),
+            Some(text) => write!(f, ", after \"{text}\""),
             None => Ok(()),
         }
     }
@@ -36,7 +37,7 @@ pub fn lost(repaired: &Repaired) -> impl Iterator<Item = Lost<'_>> + Clone {
     let (mut after, mut seen) = (None, 0);
     lost.map(move |(number, _)| {
         // Only the lines between two lost ones are looked at, from the last on.
-        let newer = (seen..number).rev().find_map(|n| full(&repaired.store, n));
+        let newer = (seen..number).rev().find_map(|n| text(&repaired.store, n));
         after = newer.or(after);
         seen = number + 1;
         let place = Place { number, columns };
@@ -44,10 +45,14 @@ pub fn lost(repaired: &Repaired) -> impl Iterator<Item = Lost<'_>> + Clone {
     })
 }
 
-/// The data of a line, unless the caption is empty.
-fn full(store: &Store, n: usize) -> Option<&[u8]> {
+/// The text of a line, unless the caption is empty or nothing but spaces.
+fn text(store: &Store, n: usize) -> Option<Text<'_>> {
     let data = store.line(n).ok()?.first_chunk::<DATA_BYTES>()?;
-    Some(data.as_slice()).filter(|data| !filled(data).is_empty())
+    let mut text = filled(data);
+    while let Some(start) = text.strip_suffix(b" ") {
+        text = start;
+    }
+    Some(Text(text)).filter(|_| !text.is_empty())
 }
 
 /// Things as a list under a heading, the first hundred of them; nothing if there

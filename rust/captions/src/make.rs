@@ -1,6 +1,6 @@
 //! `captions make`: a store from a text.
 
-use std::path::Path;
+use std::os::unix::ffi::OsStrExt;
 
 use sudoku::{DATA_BYTES, GREATEST_SIDE, LEAST_SIDE, Refusal, Store};
 
@@ -36,7 +36,7 @@ pub const SUBCOMMAND: Subcommand = Subcommand {
 const MOST_BYTES: u64 = 256 << 20;
 
 fn run(mut arguments: Arguments, console: &mut Console) -> Result<Status, Failure> {
-    let source = Source::new(arguments.operand());
+    let source = Source::new(arguments.operand())?;
     let side = |long| {
         let range = LEAST_SIDE as u64..=GREATEST_SIDE as u64;
         let side = arguments.number(long, range)?;
@@ -66,8 +66,8 @@ fn run(mut arguments: Arguments, console: &mut Console) -> Result<Status, Failur
 
 /// Whether its name is that of an .srt file.
 fn is_srt(source: &Source) -> bool {
-    let ending = Path::new(source.word()).extension();
-    ending.is_some_and(|ending| ending.eq_ignore_ascii_case("srt"))
+    let ending = source.word().as_bytes().last_chunk();
+    ending.is_some_and(|ending: &[u8; 4]| ending.eq_ignore_ascii_case(b".srt"))
 }
 
 /// Names the bad lines, if there are any.

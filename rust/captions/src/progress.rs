@@ -185,14 +185,14 @@ impl Progress {
 }
 
 /// A reader whose bytes are counted.
-pub struct Counted<'a, R> {
+pub struct Counting<'a, R> {
     /// Where they come from.
     pub from: R,
     /// Where they are counted.
     pub progress: &'a Progress,
 }
 
-impl<R: Read> Read for Counted<'_, R> {
+impl<R: Read> Read for Counting<'_, R> {
     fn read(&mut self, to: &mut [u8]) -> io::Result<usize> {
         let read = self.from.read(to)?;
         self.progress.add_bytes(read as u64);

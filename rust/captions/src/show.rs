@@ -30,7 +30,7 @@ pub const SUBCOMMAND: Subcommand = Subcommand {
 const BRACKET: &[u8] = b"[caption ";
 
 fn run(mut arguments: Arguments, console: &mut Console) -> Result<Status, Failure> {
-    let source = Source::new(arguments.operand());
+    let source = Source::new(arguments.operand())?;
     let words: Vec<_> = arguments.operands().collect();
     let number = words.first().map(|word| number(word)).transpose()?;
     let store = source.needed_store(console)?;

@@ -4,23 +4,39 @@ use std::ffi::OsStr;
 use std::fmt::{self, Display, Formatter};
 use std::os::unix::ffi::OsStrExt;
 
+/// Whether a character can't stand in a line of text: control characters, and
+/// those that part lines and paragraphs. Marks of the direction of writing can:
+/// Hebrew and Arabic captions have them.
+pub fn is_hidden(char: char) -> bool {
+    char.is_control() || matches!(char, '\u{2028}' | '\u{2029}')
+}
+
 /// Bytes as text. Control characters and what isn't UTF-8 stand there as `\xNN`,
-/// so that nothing of a store reaches the terminal raw.
+/// the other hidden characters as `\u{NNNN}`, so that a caption stays one line and
+/// no bytes of a store steer the terminal.
+#[derive(Clone, Copy, Debug)]
 pub struct Text<'a>(pub &'a [u8]);
 
 impl Display for Text<'_> {
     fn fmt(&self, f: &mut Formatter<'_>) -> fmt::Result {
         for chunk in self.0.utf8_chunks() {
-            for piece in chunk.valid().split_inclusive(char::is_control) {
-                let plain = piece.trim_end_matches(char::is_control);
+            for piece in chunk.valid().split_inclusive(is_hidden) {
+                let plain = piece.trim_end_matches(is_hidden);
                 f.write_str(plain)?;
-                let control = piece.strip_prefix(plain).unwrap_or_default();
-                write_bytes(f, control.as_bytes())?;
+                let hidden = piece.strip_prefix(plain).unwrap_or_default();
+                hidden.chars().try_for_each(|char| write_hidden(f, char))?;
             }
             write_bytes(f, chunk.invalid())?;
         }
         Ok(())
     }
+}
+
+fn write_hidden(f: &mut Formatter<'_>, char: char) -> fmt::Result {
+    if char.is_control() {
+        return write_bytes(f, char.encode_utf8(&mut [0; 4]).as_bytes());
+    }
+    write!(f, "\\u{{{:04X}}}", u32::from(char))
 }
 
 fn write_bytes(f: &mut Formatter<'_>, bytes: &[u8]) -> fmt::Result {
@@ -42,6 +58,21 @@ pub fn caption(data: &[u8]) -> Text<'_> {
 /// A file's name as text.
 pub fn name(file: &OsStr) -> Text<'_> {
     Text(file.as_bytes())
+}
+
+/// A file's name as a word for a shell, which can't be taken for an option.
+pub fn shell_word(file: &OsStr) -> String {
+    let start = if file.as_bytes().starts_with(b"-") {
+        "./"
+    } else {
+        ""
+    };
+    let word = format!("{start}{}", name(file));
+    let plain = |char: char| char.is_alphanumeric() || "_./,:=@%+-".contains(char);
+    if !word.is_empty() && word.chars().all(plain) {
+        return word;
+    }
+    format!("'{}'", word.replace('\'', "'\\''"))
 }
 
 /// A caption by its number, and its cue.
@@ -109,6 +140,29 @@ mod tests {
         assert_eq!(shown(b"\n\n"), r"\x0A\x0A");
         assert_eq!(shown(b"a\xFFb\xC3"), r"a\xFFb\xC3");
         assert_eq!(shown(b""), "");
+    }
+
+    #[test]
+    fn hidden_characters_are_shown_by_their_numbers() {
+        let shown = |text: &str| Text(text.as_bytes()).to_string();
+        assert_eq!(shown("a\u{2028}b"), r"a\u{2028}b");
+        assert_eq!(shown("\u{7}\u{2029}"), r"\x07\u{2029}");
+        assert_eq!(shown("\u{202B}שלום\u{202C}"), "\u{202B}שלום\u{202C}");
+        let hidden = (0..=0x10_FFFF).filter_map(char::from_u32);
+        let hidden = hidden.filter(|&char| is_hidden(char) && !char.is_control());
+        let numbers: Vec<u32> = hidden.map(u32::from).collect();
+        assert_eq!(numbers, [0x2028, 0x2029]);
+    }
+
+    #[test]
+    fn names_are_words_for_a_shell() {
+        let word = |name: &str| shell_word(OsStr::new(name));
+        assert_eq!(word("a/b-1.store"), "a/b-1.store");
+        assert_eq!(word("-a.store"), "./-a.store");
+        assert_eq!(word("two words"), "'two words'");
+        assert_eq!(word("-don't"), r"'./-don'\''t'");
+        assert_eq!(word("$HOME"), "'$HOME'");
+        assert_eq!(word("~x"), "'~x'");
     }
 
     #[test]

@@ -8,9 +8,10 @@ use std::path::PathBuf;
 
 use sudoku::{FileError, Store};
 
+use crate::arguments::must_be_named;
 use crate::failure::{Failure, Reason};
 use crate::output::{Console, as_file};
-use crate::progress::{Counted, Progress, Work};
+use crate::progress::{Counting, Progress, Work};
 use crate::shown;
 
 /// A file to be read.
@@ -24,11 +25,16 @@ pub enum Source {
 
 impl Source {
     /// The file that an operand names: `-` is standard input.
-    pub fn new(word: OsString) -> Source {
+    ///
+    /// # Errors
+    ///
+    /// [`Failure::Call`] if it is empty.
+    pub fn new(word: OsString) -> Result<Source, Failure> {
+        must_be_named("the input", &word)?;
         if word == "-" {
-            return Source::Input;
+            return Ok(Source::Input);
         }
-        Source::File(word.into())
+        Ok(Source::File(word.into()))
     }
 
     /// The operand itself.
@@ -57,24 +63,14 @@ impl Source {
     /// Reads a store, and counts its bytes if they are what is being counted.
     fn store(&self, progress: &Progress) -> Result<Store, FileError> {
         let file = self.file()?;
-        let mut read = if progress.is_shown() {
+        let read = if progress.is_shown() {
             let from = &file;
-            Store::read_from(Counted { from, progress })
+            Store::read_from(Counting { from, progress })
         } else {
             // Where nobody sees the count, the buffer need not be cleared first.
             Store::read_from(&file)
         };
-        if let Err(FileError::Length {
-            expected,
-            found: found @ None,
-            ..
-        }) = &mut read
-        {
-            // A file too long has its length told, though it wasn't read.
-            let length = file.metadata().ok().map(|metadata| metadata.len());
-            *found = length.filter(|length| length > expected);
-        }
-        read
+        read.map_err(|error| error.with_length_of(&file))
     }
 
     /// Reads the only store of a call, with a line of progress for its bytes.
@@ -115,7 +111,7 @@ impl Source {
         let read = || {
             let mut text = Vec::new();
             let from = self.file()?.take(most.saturating_add(1));
-            Counted { from, progress }.read_to_end(&mut text)?;
+            Counting { from, progress }.read_to_end(&mut text)?;
             Ok(text)
         };
         let text: io::Result<Vec<u8>> = self.counting(progress, read);
@@ -153,9 +149,10 @@ impl Display for Refused<'_> {
 ///
 /// # Errors
 ///
-/// [`Failure::Call`] if it is named twice.
+/// [`Failure::Call`] if it is named twice, or a name is empty.
 pub fn sources(words: impl Iterator<Item = OsString>) -> Result<Vec<Source>, Failure> {
-    let sources: Vec<Source> = words.map(Source::new).collect();
+    let sources = words.map(Source::new);
+    let sources: Vec<Source> = sources.collect::<Result<_, _>>()?;
     let inputs = sources.iter().filter(|&source| *source == Source::Input);
     if inputs.count() > 1 {
         return Err(Failure::call("standard input is named twice"));

@@ -9,6 +9,7 @@ use std::path::{Path, PathBuf};
 
 use sudoku::replace_file;
 
+use crate::arguments::must_be_named;
 use crate::failure::{Failure, Reason};
 use crate::output::{Console, as_file};
 use crate::shown;
@@ -24,15 +25,17 @@ pub enum Target {
 }
 
 impl Target {
-    /// The file that `-o` names: `-` is standard output, unless that is a
-    /// terminal. Words then go to standard error.
+    /// The file that `-o` names: `-` is standard output, and so is another name of
+    /// it, unless that is a terminal. Words then go to standard error.
     ///
     /// # Errors
     ///
-    /// [`Failure::Call`] if `-o` is missing, or a terminal would take the bytes.
+    /// [`Failure::Call`] if `-o` is missing or names nothing, or a terminal would
+    /// take the bytes.
     pub fn new(word: Option<&OsStr>, console: &mut Console) -> Result<Target, Failure> {
         let word = word.ok_or_else(|| Failure::call("no -o FILE is given"))?;
-        if word != "-" {
+        must_be_named("-o", word)?;
+        if word != "-" && !is_output(Path::new(word)) {
             return Ok(Target::File(word.into()));
         }
         if io::stdout().is_terminal() {
@@ -48,8 +51,9 @@ impl Target {
     ///
     /// # Errors
     ///
-    /// [`Failure::Call`] if it is `-`.
+    /// [`Failure::Call`] if it is `-` or empty.
     pub fn named(option: &str, word: &OsStr) -> Result<Target, Failure> {
+        must_be_named(option, word)?;
         if word == "-" {
             return Err(Failure::call(format!("{option} needs the name of a file")));
         }
@@ -77,11 +81,12 @@ impl Target {
             return true;
         }
         let target = match self {
-            Target::Output => as_file(io::stdout()).and_then(|file| file.metadata()).ok(),
+            Target::Output => output().ok(),
             Target::File(path) => fs::metadata(path).ok(),
         };
         match (target, source.metadata()) {
-            (Some(target), Some(source)) => same(&target, &source),
+            // Of devices and pipes nothing is overwritten.
+            (Some(target), Some(source)) => target.is_file() && same(&target, &source),
             _ => false,
         }
     }
@@ -118,8 +123,21 @@ pub fn replace(path: &Path, bytes: &[u8]) -> Result<(), Failure> {
     replace_file(path, bytes).map_err(|error| Failure::of(name, Reason(&error)))
 }
 
-/// Whether two are one file. Of devices and pipes nothing is overwritten.
+/// What standard output is.
+fn output() -> io::Result<Metadata> {
+    as_file(io::stdout())?.metadata()
+}
+
+/// Whether a path leads to what standard output is, as `/dev/stdout` does.
+fn is_output(path: &Path) -> bool {
+    match (fs::metadata(path), output()) {
+        (Ok(file), Ok(output)) => same(&file, &output),
+        _ => false,
+    }
+}
+
+/// Whether two are one file, device or pipe.
 fn same(one: &Metadata, other: &Metadata) -> bool {
     let identity = |file: &Metadata| (file.dev(), file.ino());
-    one.is_file() && other.is_file() && identity(one) == identity(other)
+    identity(one) == identity(other)
 }

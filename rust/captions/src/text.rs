@@ -4,6 +4,7 @@ use std::fmt::{self, Display, Formatter};
 
 use sudoku::{DATA_BYTES, GREATEST_SIDE};
 
+use crate::shown::is_hidden;
 use crate::srt;
 
 /// The most captions that a store has.
@@ -20,7 +21,7 @@ pub type Data = [u8; DATA_BYTES];
 pub enum Flaw {
     /// It isn't UTF-8.
     Encoding,
-    /// It has this control character.
+    /// It has this control character, or another that is hidden.
     Control(char),
     /// It has so many bytes, and not at most 64.
     Long(usize),
@@ -129,7 +130,7 @@ pub fn lines(text: &[u8]) -> impl Iterator<Item = (usize, &[u8])> {
 pub fn clean(line: &[u8]) -> Result<String, Flaw> {
     let text = str::from_utf8(line).map_err(|_| Flaw::Encoding)?;
     let text = text.replace('\t', " ");
-    match text.chars().find(|char| char.is_control()) {
+    match text.chars().find(|&char| is_hidden(char)) {
         Some(control) => Err(Flaw::Control(control)),
         None => Ok(text),
     }

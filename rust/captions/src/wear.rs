@@ -50,25 +50,30 @@ fn run(mut arguments: Arguments, console: &mut Console) -> Result<Status, Failur
     let mut tour = Tour::default();
     if let Some(source) = load {
         tour.sum = report(&source, console)?;
+        tour.loaded = true;
     }
     each_store(&sources, console, |source, store, console| {
         tour.take(source, store, console);
         Ok(())
     })?;
-    if let Some(save) = save {
-        let text = format!("{}\n", tour.sum.to_text());
-        save.write(text.as_bytes(), console)?;
+    if tour.loaded || !tour.units.is_empty() {
+        console.print(Table(&tour.sum))?;
     }
-    console.print(Table(&tour.sum))?;
     if sources.len() > 1 {
         tour.tell_units(console)?;
+    }
+    if let Some(save) = save {
+        console.flush()?;
+        let text = format!("{}\n", tour.sum.to_text());
+        save.write(text.as_bytes(), console)?;
     }
     Ok(Status::whole_if(!tour.worse))
 }
 
 fn loaded(word: &OsStr) -> Result<Source, Failure> {
     // Checked as a file that is written: it needs a name too.
-    Target::named("--load", word).map(|_| Source::new(word.to_os_string()))
+    Target::named("--load", word)?;
+    Source::new(word.to_os_string())
 }
 
 /// The report that was saved there.
@@ -86,6 +91,18 @@ struct Unit {
     outcome: Outcome,
 }
 
+impl Unit {
+    /// How bad it is beside others of the same share: most where no caption is to
+    /// be trusted, and otherwise by the captions that are lost.
+    fn badness(&self) -> u64 {
+        match self.outcome {
+            Outcome::Differs => u64::MAX,
+            Outcome::Left => self.lost,
+            Outcome::Done => 0,
+        }
+    }
+}
+
 impl Display for Unit {
     fn fmt(&self, f: &mut Formatter<'_>) -> fmt::Result {
         let (name, share, lost) = (&self.name, self.wear.rebuilt_share(), self.lost);
@@ -98,6 +115,8 @@ impl Display for Unit {
 #[derive(Default)]
 struct Tour {
     sum: Wear,
+    /// Whether the sum began with a report that was saved.
+    loaded: bool,
     units: Vec<Unit>,
     /// Whether some store isn't whole, or wasn't taken in.
     worse: bool,
@@ -127,12 +146,12 @@ impl Tour {
         Ok(repaired.is_whole())
     }
 
-    /// The stores, the most worn first, by the library's comparison.
+    /// The stores, the most rebuilt first, by the library's comparison.
     fn tell_units(&mut self, console: &mut Console) -> Result<(), Failure> {
         self.units
-            .sort_by_key(|unit| Reverse(unit.wear.rebuilt_share()));
+            .sort_by_key(|unit| Reverse((unit.wear.rebuilt_share(), unit.badness())));
         if !self.units.is_empty() {
-            console.print("\nworst first:\n")?;
+            console.print("\nmost rebuilt first:\n")?;
         }
         let mut units = self.units.iter();
         units.try_for_each(|unit| console.print(format_args!("{unit}\n")))

@@ -65,7 +65,7 @@ fn version() {
 }
 
 /// Calls that are wrong, each in one way.
-const WRONG: [&str; 58] = [
+const WRONG: [&str; 66] = [
     "nonsense",
     "-x",
     "--json check a.store",
@@ -124,6 +124,14 @@ const WRONG: [&str; 58] = [
     "hurt",
     "hurt --bits 1 -o b",
     "hurt a.store a.store --bits 1 -o b",
+    "--help x",
+    "-h --help",
+    "--version x",
+    "help check x",
+    "make a.store -o=b",
+    "make a.store -o=",
+    "repair a.store -o=b",
+    "hurt a.store -o=b --bits 1",
 ];
 
 #[test]
@@ -151,6 +159,9 @@ fn a_wrong_call_names_what_is_wrong() {
         ("hurt a -o b", "--bits"),
         ("make a", "-o"),
         ("hurt a -o b --bits 1 --seed x7", "x7"),
+        ("--help x7", "x7"),
+        ("--version x7", "x7"),
+        ("make a -o=b", "-o takes its file as -o FILE"),
     ] {
         let message = captions(call).run().called_wrongly();
         assert!(message.contains(named), "{call}: {message}");
@@ -163,6 +174,37 @@ fn a_wrong_call_names_what_is_wrong() {
             "{message}"
         );
     }
+}
+
+#[test]
+fn an_empty_word_names_no_file() {
+    let folder = Folder::new();
+    folder.write("a.store", play(2, 2).file());
+    for call in [
+        "check",
+        "check a.store",
+        "check a.store --svg",
+        "show",
+        "forecast",
+        "wear",
+        "wear a.store --save",
+        "wear a.store --load",
+        "make -o b",
+        "make a.store -o",
+        "repair -o b",
+        "repair --in-place",
+        "repair a.store -o",
+        "hurt -o b --bits 1",
+        "hurt a.store --bits 1 -o",
+    ] {
+        let message = captions(call).with("").within(folder.path()).run();
+        let message = message.called_wrongly();
+        assert!(message.contains("is empty"), "{call}: {message}");
+        assert_eq!(folder.names(), ["a.store"], "{call}");
+    }
+    let run = captions("change").with("").words("1 x");
+    let message = run.within(folder.path()).run().called_wrongly();
+    assert!(message.contains("is empty"), "{message}");
 }
 
 #[test]

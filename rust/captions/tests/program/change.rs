@@ -6,8 +6,9 @@ use reference::draw::Store;
 use reference::random::Random;
 use reference::{Change, answer};
 
+use crate::support::run::shell;
 use crate::support::shows::{drawn, hamlet_store, play};
-use crate::support::text::data_of;
+use crate::support::text::{HIDDEN, data_of};
 use crate::support::{Folder, Ran, captions};
 use crate::{cases, seed};
 
@@ -130,6 +131,28 @@ fn what_to_do_where_a_parity_line_or_the_caption_is_damaged() {
 }
 
 #[test]
+fn the_advice_can_be_pasted_into_a_shell() {
+    let mut store = play(2, 2);
+    store.hurt_row_parity(0, &[3]);
+    for name in [
+        "two words.store",
+        "-dash.store",
+        "it's $HOME;`x`",
+        "plain.store",
+    ] {
+        let folder = Folder::new();
+        folder.write(name, store.file());
+        let run = captions("change --").with(name).words("1 new");
+        let message = run.within(folder.path()).run().refused();
+        let advice = message.split_once(": run captions ").expect("advice").1;
+        let advice = advice.strip_suffix(" first\n").expect("its end");
+        let run = shell(&format!("exec \"$@\" {advice}")).within(folder.path());
+        assert_eq!(run.run().status, 0, "{advice}");
+        assert_eq!(folder.read(name), play(2, 2).file(), "{advice}");
+    }
+}
+
+#[test]
 fn the_same_limits_as_make() {
     let folder = Folder::new();
     let file = hamlet_store().file();
@@ -141,6 +164,10 @@ fn the_same_limits_as_make() {
     for text in controls {
         let message = change(&folder, 1, text).refused();
         assert!(!message.contains(['\x1B', '\x07', '\u{9B}']), "{message:?}");
+    }
+    for hidden in HIDDEN {
+        let message = change(&folder, 1, &format!("a{hidden}b")).refused();
+        assert!(!message.contains(hidden), "{message:?}");
     }
     use std::os::unix::ffi::OsStrExt;
     let bytes = std::ffi::OsStr::from_bytes(b"caf\xE9");

@@ -143,9 +143,6 @@ fn files_that_are_not_there_or_are_folders() {
     refused_by_all(&folder, "link");
     // A file that opens, and then can't be read.
     refused_by_all(&folder, "/proc/self/mem");
-    // An empty name.
-    let ran = captions("check").with("").run();
-    assert_eq!(ran.status, 1);
 }
 
 #[test]

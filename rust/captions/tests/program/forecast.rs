@@ -7,7 +7,7 @@ use reference::{LINE_BYTES, mark};
 
 use crate::support::expected::Lost;
 use crate::support::shows::{drawn, hamlet_store, in_disagreement, play, with_lost};
-use crate::support::{Folder, captions};
+use crate::support::{Checked, Folder, captions};
 use crate::{cases, seed};
 
 /// What rebuilding alone would save of a store, as the second implementation has
@@ -23,12 +23,10 @@ pub struct Expected {
     pub rows: Vec<u64>,
     /// The columns whose parity lines are.
     pub columns: Vec<u64>,
-    /// How many may be lost where these don't help.
-    left: usize,
 }
 
 /// A byte for each line: 1 where it is faulty alone.
-fn faulty(lines: &[u8]) -> Vec<u8> {
+pub fn faulty(lines: &[u8]) -> Vec<u8> {
     let lines = lines.chunks(LINE_BYTES).map(line::places);
     lines
         .map(|found| u8::from(line::read_alone(&found).1 == mark::FAULTY))
@@ -56,7 +54,6 @@ pub fn expected(store: &Store) -> Expected {
         faulty: faulty.iter().filter(|&&faulty| faulty == 1).count(),
         lost: lost.map(|n| Lost::at(n, store.columns)).collect(),
         passes: forecast.passes,
-        left: left(&faulty, store.columns, (&rows, &columns)),
         rows,
         columns,
     }
@@ -93,33 +90,16 @@ impl Expected {
         assert_eq!(named(text, "column"), self.columns, "{text}");
         let bound = self.rows.is_empty() && self.columns.is_empty();
         assert_eq!(text.contains("parity"), !bound, "{text}");
-        assert_eq!(text.contains("no bound"), !bound, "{text}");
-        assert!(!bound || self.left == self.lost.len());
+        let says = text.ends_with("\nso this is no bound: repair may lose more\n");
+        assert_eq!(says, !bound && self.faulty > 0, "{text}");
+        assert_eq!(text.contains("bound"), says, "{text}");
     }
 
-    /// The exit status: 1 where something may be lost.
+    /// The exit status: 0 where no line is faulty, or nothing may be lost and every
+    /// parity line can be read.
     pub fn status(&self) -> i32 {
-        i32::from(self.left > 0)
-    }
-}
-
-/// How many of these lines no row and no column ever has as its only one left,
-/// where rows and columns with a faulty parity line don't help. Without such ones
-/// these are the lines that the forecast leaves.
-fn left(faulty: &[u8], columns: usize, unusable: (&[u64], &[u64])) -> usize {
-    let mut left: Vec<usize> = (0..faulty.len()).filter(|&n| faulty[n] == 1).collect();
-    loop {
-        let helped = |&n: &usize| {
-            let same_row = left.iter().filter(|&&m| m / columns == n / columns);
-            let same_column = left.iter().filter(|&&m| m % columns == n % columns);
-            let (row, column) = ((n / columns) as u64, (n % columns) as u64);
-            (same_row.count() == 1 && !unusable.0.contains(&row))
-                || (same_column.count() == 1 && !unusable.1.contains(&column))
-        };
-        let Some(at) = left.iter().position(helped) else {
-            return left.len();
-        };
-        left.remove(at);
+        let bound = self.rows.is_empty() && self.columns.is_empty();
+        i32::from(self.faulty > 0 && !(self.lost.is_empty() && bound))
     }
 }
 
@@ -187,12 +167,38 @@ fn parity_lines_that_are_faulty_alone() {
     store.hurt_row_parity(6, &[1]);
     store.hurt_column_parity(7, &[1, 2, 3]);
     let expected = compared(&Folder::new(), &store);
+    assert_eq!(expected.status(), 1, "no bound");
     assert_eq!((expected.rows, expected.columns), (vec![5], vec![7]));
 
-    // Line 52 stands in row 5 and column 7: neither helps it.
+    // Line 52 stands in row 5 and column 7: neither helps it, and repair loses
+    // more than the forecast says.
     store.hurt(52, &[1, 2]);
     let expected = compared(&Folder::new(), &store);
-    assert_eq!((expected.lost.len(), expected.left), (0, 1));
+    assert_eq!((expected.lost.len(), expected.status()), (0, 1));
+    let lost = Checked::of(store).lost();
+    assert_eq!(
+        lost.iter().map(|lost| lost.number).collect::<Vec<_>>(),
+        [52]
+    );
+}
+
+#[test]
+fn parity_lines_alone() {
+    // No caption is faulty, so none can be lost.
+    let mut store = play(3, 3);
+    store.hurt_row_parity(1, &[1, 2]);
+    let folder = Folder::new();
+    let expected = compared(&folder, &store);
+    assert_eq!((expected.rows.as_slice(), expected.status()), (&[1][..], 0));
+    let text = captions("forecast a.store")
+        .within(folder.path())
+        .run()
+        .whole();
+    assert_eq!(
+        text,
+        "a.store: 0 of 9 captions cannot be read alone; rebuilding alone saves 0 and may lose 0 \
+         (0 passes)\nparity lines that cannot be read alone:\n  row 1\n"
+    );
 }
 
 #[test]

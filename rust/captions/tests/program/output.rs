@@ -1,4 +1,4 @@
-//! Standard output that is full, closed, or goes away.
+//! Standard output that is full, goes away, or is the null device.
 
 use std::io::Write;
 use std::process::Stdio;
@@ -51,21 +51,49 @@ fn full() {
 }
 
 #[test]
-fn closed() {
-    // The runtime opens the null device where a stream is closed: what is printed
-    // goes nowhere, and no file that is opened takes its place.
+fn the_null_device() {
+    // Opened to write alone, as by a shell, and to read too, as by Python.
     let folder = folder();
-    let store = folder.read("a.store");
     for call in PRINTING {
-        let run = shell("exec \"$@\" >&-").words(call);
-        let ran = run.within(folder.path()).run();
-        assert_eq!(ran.text(), "", "{call}");
-        assert!(ran.status <= 1, "{call}: {}", ran.err);
-        assert_eq!(folder.read("a.store"), store, "{call}");
-        if call == "repair a.store -o new" {
-            assert_eq!(folder.read("new"), store, "no words among its bytes");
+        for output in [">/dev/null", "1<>/dev/null"] {
+            let run = shell(&format!("exec \"$@\" {output}")).words(call);
+            let ran = run.within(folder.path()).run();
+            assert_eq!(ran.status, 0, "{call} {output}: {}", ran.err);
         }
     }
+}
+
+#[test]
+fn another_name_of_standard_output() {
+    // As with -o -, the words go to standard error, and none among the bytes.
+    let folder = folder();
+    let made = captions("make text -o -").within(folder.path()).run().out;
+    let calls = [
+        ("make text -o", made),
+        ("repair a.store -o", folder.read("a.store")),
+    ];
+    for (call, expected) in calls {
+        for line in [
+            "exec \"$@\" /dev/stdout",
+            "exec \"$@\" /dev/fd/1",
+            "\"$@\" /dev/stdout | cat",
+            "\"$@\" /dev/stdout >new; cat new; rm new",
+            "\"$@\" new >new; cat new; rm new",
+            "echo >new; \"$@\" /dev/stdout >>new; tail -c +2 new; rm new",
+        ] {
+            let run = shell(line).words(call).within(folder.path());
+            let ran = run.run();
+            assert_eq!(
+                (ran.status, &ran.out),
+                (0, &expected),
+                "{line}: {}",
+                ran.err
+            );
+            let words = ran.err.contains("rows and ");
+            assert!(words, "{line}: {}", ran.err);
+        }
+    }
+    assert_eq!(folder.names(), ["a.store", "text"]);
 }
 
 #[test]

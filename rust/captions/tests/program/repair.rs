@@ -7,6 +7,7 @@ use std::os::unix::fs::{PermissionsExt, symlink};
 use reference::answer;
 use reference::random::Random;
 
+use crate::forecast::faulty;
 use crate::support::printed::report;
 use crate::support::shows::{drawn, hamlet_store, in_disagreement, play, with_lost};
 use crate::support::{Checked, Folder, Ran, captions};
@@ -27,11 +28,27 @@ fn words_agree(ran: &Ran, expected: &Checked) {
     report.agrees("a.store", expected);
     assert!(report.picture.is_empty(), "{:?}", report.picture);
     if expected.answer() == answer::DIFFERS {
-        let message = ran.message();
-        assert!(message.contains("trust"), "{message}");
+        assert_eq!(ran.err, warning(expected), "{}", ran.text());
     } else {
         assert_eq!(ran.err, "");
     }
+}
+
+/// The words of answer 12. Whether some parity line can't be read is the second
+/// implementation's to say.
+fn warning(expected: &Checked) -> String {
+    let store = &expected.store;
+    let tables = [&store.row_table, &store.column_table];
+    let afresh = tables.iter().any(|table| faulty(table).contains(&1));
+    let start = "captions: new.store: warning:";
+    let mut words = format!("{start} no caption is to be trusted: lines and parity disagree\n");
+    if afresh {
+        words += &format!(
+            "{start} parity lines that could not be read were made afresh from these lines: \
+             keep a.store\n"
+        );
+    }
+    words
 }
 
 #[test]
@@ -52,8 +69,12 @@ fn drawn_stores_to_a_new_file_and_in_place() {
         assert_eq!(folder.read("a.store"), file, "the input stays");
 
         let ran = repaired(&folder, &file, "--in-place");
-        words_agree(&ran, &expected);
-        assert_eq!(folder.read("a.store"), expected.new_file());
+        if expected.answer() == answer::DIFFERS {
+            not_replaced(&folder, ran, &file);
+        } else {
+            words_agree(&ran, &expected);
+            assert_eq!(folder.read("a.store"), expected.new_file());
+        }
         assert_eq!(folder.names(), ["a.store", "new.store"]);
         *answers.entry(expected.answer()).or_insert(0) += 1;
     }
@@ -95,13 +116,49 @@ fn a_store_in_disagreement_is_written_with_a_warning() {
     let store = in_disagreement(3, 3);
     let ran = repaired(&folder, &store.file(), "-o new.store");
     assert_eq!(ran.status, 1);
-    let message = ran.message();
-    assert!(message.contains("trust") && message.contains("tables"));
     assert_eq!(
-        folder.read("new.store"),
-        Checked::of(store).new_file(),
-        "written all the same"
+        ran.err,
+        "captions: new.store: warning: no caption is to be trusted: lines and parity disagree\n"
     );
+    let written = folder.read("new.store");
+    assert_eq!(written, store.file(), "parity lines stay as they were read");
+}
+
+/// Whether a store in disagreement was left where it is.
+fn not_replaced(folder: &Folder, ran: Ran, file: &[u8]) {
+    let message = ran.refused();
+    let start = "captions: a.store: answer 12: lines and parity disagree";
+    assert!(message.starts_with(start), "{message}");
+    assert!(message.contains("use -o NEW and keep this file"));
+    assert_eq!(folder.read("a.store"), file, "nothing is written");
+}
+
+#[test]
+fn a_store_in_disagreement_is_not_replaced() {
+    let folder = Folder::new();
+    let file = in_disagreement(3, 3).file();
+    let ran = repaired(&folder, &file, "--in-place");
+    not_replaced(&folder, ran, &file);
+    assert_eq!(folder.names(), ["a.store"]);
+}
+
+#[test]
+fn parity_lines_made_afresh_are_told() {
+    let folder = Folder::new();
+    let mut store = in_disagreement(3, 3);
+    // Of row 2, in which all is well.
+    store.hurt_row_parity(2, &[1, 2]);
+    let ran = repaired(&folder, &store.file(), "-o new.store");
+    assert_eq!(ran.status, 1);
+    assert_eq!(ran.err.lines().count(), 2, "{}", ran.err);
+    let expected = Checked::of(store.clone());
+    assert_eq!(ran.err, warning(&expected));
+    let written = folder.read("new.store");
+    assert_eq!(written, in_disagreement(3, 3).file());
+
+    let ran = captions("repair - -o new.store").input(&store.file());
+    let ran = ran.within(folder.path()).run();
+    assert!(ran.err.ends_with(": keep what was read\n"), "{}", ran.err);
 }
 
 #[test]

@@ -124,6 +124,17 @@ fn a_caption_that_looks_like_a_lost_one() {
 }
 
 #[test]
+fn hidden_characters_are_shown_by_their_numbers() {
+    // Marks of the direction of writing are text, as in Hebrew captions.
+    let hebrew = "\u{202B}שלום\u{202C}";
+    let texts = [hebrew, "a\u{2028}b", "\u{2029}\u{200F}c", "end  "];
+    let text = shows(&Folder::new(), &show(2, 2, &texts), "").whole();
+    // By hand; spaces at the end are kept.
+    let hidden = "a\\u{2028}b\n\\u{2029}\u{200F}c\nend  \n";
+    assert_eq!(text, format!("{hebrew}\n{hidden}"));
+}
+
+#[test]
 fn nothing_from_a_store_reaches_the_terminal_raw() {
     let mut store = play(2, 2);
     let odd: [&[u8]; 4] = [

@@ -4,10 +4,10 @@ use std::cmp::Ordering;
 
 use reference::draw::Store;
 use reference::random::Random;
-use reference::{mark, order, wear};
+use reference::{answer, mark, order, wear};
 
 use crate::support::expected::MARKS;
-use crate::support::run::Run;
+use crate::support::run::{Run, shell};
 use crate::support::shows::{drawn, hamlet_store, in_disagreement, play, with_lost};
 use crate::support::text::{numbers, squeezed};
 use crate::support::{Checked, Folder, Ran, captions};
@@ -74,14 +74,25 @@ fn table_agrees(text: &str, report: &Report) {
     }
 }
 
-/// The lines for the units: worst first, ties in the order given.
+/// How bad a store is beside others of the same share: answer 12, then 11 by the
+/// lost captions, then the others.
+fn badness(store: &Checked) -> (bool, usize) {
+    match store.answer() {
+        answer::DIFFERS => (true, 0),
+        answer::LEFT => (false, store.count(mark::FAULTY)),
+        _ => (false, 0),
+    }
+}
+
+/// The lines for the units: most rebuilt first, then the worst, then in the order
+/// given.
 fn units(names: &[String], stores: &[Checked]) -> Vec<String> {
     let mut units: Vec<(&String, &Checked)> = names.iter().zip(stores).collect();
     units.sort_by(
         |(_, a), (_, b)| match wear::compare(&report_of(a), &report_of(b)) {
             (0, order::GREATER) => Ordering::Less,
             (0, order::SMALLER) => Ordering::Greater,
-            (0, order::EQUAL) => Ordering::Equal,
+            (0, order::EQUAL) => badness(b).cmp(&badness(a)),
             other => panic!("{other:?}"),
         },
     );
@@ -150,7 +161,7 @@ fn drawn_stores() {
 }
 
 #[test]
-fn worst_first_and_ties_in_the_order_given() {
+fn most_rebuilt_first_then_the_worst() {
     let folder = Folder::new();
     let mut rebuilt = play(3, 8);
     rebuilt.hurt(5, &[1, 2]);
@@ -160,6 +171,8 @@ fn worst_first_and_ties_in_the_order_given() {
         with_lost(4, 4),
         rebuilt,
         in_disagreement(2, 2),
+        play(3, 3),
+        lost_rows(),
     ];
     let (_, run) = run_on(&folder, &stores, "");
     let ran = run.run();
@@ -170,13 +183,57 @@ fn worst_first_and_ties_in_the_order_given() {
         [
             "1.store 4.17 % rebuilt, 0 lost, answer 0",
             "3.store 4.17 % rebuilt, 0 lost, answer 0",
-            "0.store 0.00 % rebuilt, 0 lost, answer 0",
-            "2.store 0.00 % rebuilt, 4 lost, answer 11",
             "4.store 0.00 % rebuilt, 0 lost, answer 12",
+            "6.store 0.00 % rebuilt, 6 lost, answer 11",
+            "2.store 0.00 % rebuilt, 4 lost, answer 11",
+            "0.store 0.00 % rebuilt, 0 lost, answer 0",
+            "5.store 0.00 % rebuilt, 0 lost, answer 0",
         ]
     );
-    let all = [5, 4 + 24 + 16 + 24 + 4, 66, 0, 0, 2, 4, 3, 1, 1];
+    assert!(ran.text().contains("\n\nmost rebuilt first:\n1.store "));
+    let all = [7, 4 + 24 + 16 + 24 + 4 + 9 + 16, 85, 0, 0, 2, 10, 4, 2, 1];
     table_agrees(ran.text(), &all);
+}
+
+/// A play whose first three columns are lost in two rows.
+fn lost_rows() -> Store {
+    let mut store = with_lost(4, 4);
+    store.hurt(2, &[31, 121, 211, 301, 391]);
+    store.hurt(6, &[44, 134, 224, 314, 404]);
+    store
+}
+
+#[test]
+fn nothing_taken_in_has_no_table() {
+    let folder = Folder::new();
+    folder.write("bad.store", [0; 600]);
+    for call in ["wear none.store", "wear none.store bad.store"] {
+        captions(call).within(folder.path()).run().refused();
+    }
+    // A report that was loaded is told.
+    folder.write("report", "1 4 2 0 0 1 1 0 1 0");
+    let run = captions("wear none.store --load report");
+    let ran = run.within(folder.path()).run();
+    assert_eq!(ran.status, 1);
+    table_agrees(ran.text(), &[1, 4, 2, 0, 0, 1, 1, 0, 1, 0]);
+}
+
+#[test]
+fn the_table_comes_before_the_report_is_saved() {
+    let folder = Folder::new();
+    let (_, run) = run_on(&folder, &[play(2, 2)], "--save no/saved");
+    let ran = run.run();
+    assert_eq!(ran.status, 1);
+    assert!(
+        ran.message().contains("captions: no/saved: "),
+        "{}",
+        ran.err
+    );
+    table_agrees(ran.text(), &[1, 4, 4, 0, 0, 0, 0, 1, 0, 0]);
+    // Words that can't be had are no reason to save.
+    let run = shell("exec \"$@\" >/dev/full").words("wear 0.store --save saved");
+    assert_eq!(run.within(folder.path()).run().status, 1);
+    assert_eq!(folder.names(), ["0.store"]);
 }
 
 #[test]

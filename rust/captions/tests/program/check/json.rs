@@ -3,6 +3,7 @@
 use super::stores;
 use crate::support::expected::{Lost, meaning};
 use crate::support::json::Value;
+use crate::support::run::shell;
 use crate::support::shows::{hamlet_store, play};
 use crate::support::text::shown;
 use crate::support::{Checked, Folder, captions};
@@ -105,6 +106,32 @@ fn good_bad_and_missing_files() {
         assert_eq!(object.at("answer"), &Value::Null);
         assert_ne!(object.at("error").text(), "");
     }
+}
+
+#[test]
+fn messages_stand_on_lines_of_their_own() {
+    let folder = Folder::new();
+    folder.write("a.store", play(2, 2).file());
+    let run = shell("exec \"$@\" 2>&1").words("check --json none a.store nor a.store");
+    let ran = run.within(folder.path()).run();
+    let lines: Vec<&str> = ran.text().lines().collect();
+    let starts = [
+        "[",
+        "captions: none: ",
+        "{\"file\":\"none\",",
+        ",{\"file\":\"a.store\",",
+        "captions: nor: ",
+        ",{\"file\":\"nor\",",
+        ",{\"file\":\"a.store\",",
+        "]",
+    ];
+    assert_eq!(lines.len(), starts.len(), "{lines:?}");
+    for (line, start) in lines.iter().zip(starts) {
+        assert!(line.starts_with(start), "{line}");
+    }
+    let without = |line: &&&str| !line.starts_with("captions: ");
+    let json: Vec<&str> = lines.iter().filter(without).copied().collect();
+    assert_eq!(Value::printed(&(json.join("\n") + "\n")).len(), 4);
 }
 
 #[test]

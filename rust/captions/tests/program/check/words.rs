@@ -102,6 +102,23 @@ fn empty_captions_are_not_named_as_the_ones_before() {
 }
 
 #[test]
+fn spaces_at_the_end_of_the_one_before_are_dropped() {
+    let mut captions = vec!["first  "; 16];
+    captions[8] = "   ";
+    let mut store = crate::support::shows::show(4, 4, &captions);
+    for (k, n) in [5, 6, 9, 10].into_iter().enumerate() {
+        store.hurt(n, &[17 * k, 90 + 17 * k, 200, 333, 444]);
+    }
+    let (_, text) = checked(&Folder::new(), &store);
+    let lost = report(&text).lost.expect("a list of lost captions");
+    assert_eq!(lost.len(), 4);
+    // Caption 8 is nothing but spaces.
+    for line in &lost {
+        assert!(line.ends_with(", after \"first\""), "{line}");
+    }
+}
+
+#[test]
 fn lines_and_parity_that_disagree() {
     let (expected, text) = checked(&Folder::new(), &in_disagreement(3, 3));
     assert_eq!(expected.answer(), answer::DIFFERS);

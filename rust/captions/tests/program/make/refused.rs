@@ -3,7 +3,7 @@
 use super::refusal;
 use crate::support::Folder;
 use crate::support::run::frugal;
-use crate::support::text::numbers;
+use crate::support::text::{HIDDEN, numbers};
 
 /// The message for a text with good lines up to this number and then a bad one.
 fn refused_at(number: usize, bad: &[u8]) -> String {
@@ -59,6 +59,16 @@ fn control_characters() {
     ] {
         let message = refused_at(604, bad);
         assert!(!message.contains(['\x1B', '\x07', '\u{9B}']), "{message:?}");
+    }
+}
+
+#[test]
+fn hidden_characters() {
+    for hidden in HIDDEN {
+        let message = refused_at(604, format!("to {hidden}be").as_bytes());
+        let named = format!("a control character, U+{:04X}", hidden as u32);
+        assert!(message.contains(&named), "{message}");
+        assert!(!message.contains(hidden));
     }
 }
 

@@ -31,9 +31,14 @@ fn expected() -> Vec<u8> {
 
 #[test]
 fn by_name() {
-    for name in ["a.srt", "a.SRT", "a.Srt", "b.txt.srt"] {
+    // Without a number in front it does not look like one.
+    let (_, unnumbered) = PLAIN.split_once('\n').expect("a number");
+    for name in ["a.srt", "a.SRT", "a.Srt", "b.txt.srt", ".srt"] {
         assert_eq!(made(name, PLAIN, ""), expected(), "{name}");
+        assert_eq!(made(name, unnumbered, ""), expected(), "{name}");
     }
+    let as_text = made("srt", unnumbered, "");
+    assert_ne!(as_text, expected(), "a caption for each line");
 }
 
 #[test]

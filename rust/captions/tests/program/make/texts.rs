@@ -47,8 +47,8 @@ fn a_caption_for_each_line() {
     expect("a\tb\n\t\n", &["a b", " "]);
     expect("  spaces stay  \n", &["  spaces stay  "]);
     expect("x", &["x"]);
-    // A mark that isn't at the start, and a replacement character, are text.
-    expect("a\u{FEFF}b\n\u{FFFD}\n", &["a\u{FEFF}b", "\u{FFFD}"]);
+    // A joiner and a replacement character are text.
+    expect("a\u{200D}b\n\u{FFFD}\n", &["a\u{200D}b", "\u{FFFD}"]);
 }
 
 #[test]
@@ -68,7 +68,7 @@ fn a_caption_of_64_bytes_fits() {
 
 /// A drawn line of text: up to 64 bytes of characters of one to four bytes.
 fn line(random: &mut Random) -> String {
-    let alphabet: Vec<char> = "abc XYZ.,!?\"'\\<>&[](){}$%0129äß’—日本語😀\u{301}\u{200F}"
+    let alphabet: Vec<char> = "abc XYZ.,!?\"'\\<>&[](){}$%0129äß’—日本語😀\u{301}\u{200D}"
         .chars()
         .collect();
     let most = random.below(65);

@@ -175,6 +175,10 @@ fn repair_in_place() {
     each(
         |_| "repair a.store --in-place".to_string(),
         |_, spoilt, folder, ran| match &spoilt.opened {
+            Ok(checked) if checked.answer() == answer::DIFFERS => {
+                told(folder, ran);
+                left(folder, &["a.store"], &spoilt.file, ran);
+            }
             Ok(checked) => {
                 assert_eq!(ran.status, checked.status());
                 left(folder, &["a.store"], &checked.new_file(), ran);

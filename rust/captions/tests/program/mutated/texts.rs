@@ -7,6 +7,7 @@ use crate::make::sides::near_square;
 use crate::seed;
 use crate::support::expected::opened;
 use crate::support::shows::{hamlet, show};
+use crate::support::text::HIDDEN;
 use crate::support::{Folder, Ran, captions};
 
 /// Some lines of the play.
@@ -39,7 +40,8 @@ fn captions_of(text: &[u8]) -> Option<Vec<String>> {
     }
     let caption = |line: &[u8]| {
         let line = String::from_utf8(line.to_vec()).ok()?.replace('\t', " ");
-        let fits = line.len() <= 64 && !line.contains(|c: char| c.is_control());
+        let hidden = |c: char| c.is_control() || HIDDEN.contains(&c);
+        let fits = line.len() <= 64 && !line.contains(hidden);
         fits.then_some(line)
     };
     lines.split(|&byte| byte == b'\n').map(caption).collect()

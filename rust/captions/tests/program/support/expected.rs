@@ -130,8 +130,12 @@ impl Checked {
                     after: after.clone(),
                     ..Lost::at(number, self.store.columns)
                 }),
-                Some(text) if !text.is_empty() => after = Some(text),
-                Some(_) => {}
+                Some(text) => {
+                    let text = text.trim_end_matches(' ');
+                    after = Some(text.to_string())
+                        .filter(|_| !text.is_empty())
+                        .or(after);
+                }
             }
         }
         lost

@@ -9,8 +9,12 @@ pub fn data_of(caption: &str) -> [u8; DATA_BYTES] {
     data
 }
 
+/// Characters that no caption may have beside control characters: they part lines
+/// and paragraphs.
+pub const HIDDEN: [char; 2] = ['\u{2028}', '\u{2029}'];
+
 /// Data bytes as they are shown: zeros at the end dropped, control characters and
-/// bytes that aren't UTF-8 as `\xNN`.
+/// bytes that aren't UTF-8 as `\xNN`, other hidden characters as `\u{NNNN}`.
 pub fn shown(data: &[u8]) -> String {
     let length = data
         .iter()
@@ -23,6 +27,8 @@ pub fn shown(data: &[u8]) -> String {
                 let mut bytes = [0; 4];
                 character.encode_utf8(&mut bytes);
                 escape(&bytes[..character.len_utf8()], &mut text);
+            } else if HIDDEN.contains(&character) {
+                text += &format!("\\u{{{:04X}}}", character as u32);
             } else {
                 text.push(character);
             }
