@@ -51,6 +51,23 @@ fn full() {
 }
 
 #[test]
+fn closed() {
+    // The launcher tells it. Without it what is printed goes nowhere, and no file
+    // that is opened takes the output's place.
+    let folder = folder();
+    let store = folder.read("a.store");
+    for call in PRINTING {
+        let run = shell("exec \"$@\" >&-").words(call);
+        let ran = run.within(folder.path()).run();
+        assert!(ran.status <= 1 && ran.out.is_empty(), "{call}: {}", ran.err);
+        assert_eq!(folder.read("a.store"), store, "{call}");
+        if call == "repair a.store -o new" {
+            assert_eq!(folder.read("new"), store, "no words among its bytes");
+        }
+    }
+}
+
+#[test]
 fn the_null_device() {
     // Opened to write alone, as by a shell, and to read too, as by Python.
     let folder = folder();
