@@ -1,6 +1,8 @@
 // The C interface: the entry points over slices and numbers, for programs in other languages to link.
 // In C a slice is a pointer and a length; the mark, the passes, the number, the step and the order are each returned through a pointer, and
 // so are the eight numbers of a file's layout and of a check, which a C struct of eight fields holds.
+#![tactic(auto)]
+
 ghost use Rattle.std.specs.Prelude.{◌≡◌, length};
 ghost use Rattle.rectangle.specs.Tables.{TablesMade, make_tables};
 ghost use Rattle.rectangle.specs.Change.{LineChanged, change_line};

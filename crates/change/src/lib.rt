@@ -1,5 +1,7 @@
 // Changing one line together with its two parity lines. Document 01, "The rectangle". It reads three lines and
 // writes one, so it goes by the tables that are compiled in; `tables` and `repair`, which read every line, lend a table.
+#![tactic(auto)]
+
 ghost use Rattle.std.specs.Prelude.{◌≡◌, ℕ, suc, ◌*◌, ◌/◌, ◌%◌, ◌≤◌, ◌<◌, length};
 ghost use Rattle.rectangle.specs.Store.{alone_at, in_bytes, row_group, column_group};
 ghost use Rattle.rectangle.specs.Refusals.{parity_correct, parity_refusal, change_refusal, number_with};

@@ -1,5 +1,7 @@
 // The first reading: one sweep over all lines, row after row. Document 01, "Repair".
 // `read_all` is public for `repair`, which has tested or made what it asks; not an entry point.
+#![tactic(auto)]
+
 ghost use Rattle.std.specs.Prelude.{◌≡◌, List, [], ◌++◌, ℕ, ◌+◌, ◌*◌, ◌≤◌, ◌<◌, length};
 ghost use Rattle.gf2.specs.Word.{Word};
 ghost use Rattle.scheme.specs.Layer.{read_line};

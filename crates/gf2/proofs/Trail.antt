@@ -26,7 +26,7 @@ trail-member : {A : Type 0} (M : A → A) (k i : ℕ) (x : A) → i < k → Memb
 trail-member M zero i x h = absurd (not-suc-le-zero h)
 trail-member M (suc k) zero x h = inl (iterate-zero M x)
 trail-member M (suc k) (suc i) x h =
-    inr (rw (iterate-suc M i x) (trail-member M k i (M x) (le_of_suc-le-suc h)))
+    inr (subst (λ y. Member y (trail M k (M x))) (sym (iterate-suc M i x)) (trail-member M k i (M x) (le_of_suc-le-suc h)))
 
 module _ (n : ℕ) (M : Vector n → Vector n) (u : Vector n) where
   -- the powers after the first differ from u

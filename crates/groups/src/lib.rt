@@ -1,5 +1,7 @@
 // The groups of a rectangle in visiting order, rows and then columns: their lines, and what stands beside each.
 // Public for the crates above that visit groups, which have tested or made what these ask; not entry points.
+#![tactic(auto)]
+
 pub mod tracked;
 
 ghost use Rattle.std.specs.Prelude.{false, ◌||◌, ◌≡◌, ◌++◌, ℕ, ◌+◌, ◌*◌, ◌≤◌, ◌<◌, eqb, length, get_or};

@@ -1,5 +1,7 @@
 // The table that is lent, as it stands in memory: 4096 entries, 256 for each of sixteen bytes, the last byte's first.
 // Public for the entry points above, which bind it once: 32 KB, that only many lines amortise.
+#![tactic(auto)]
+
 ghost use Rattle.std.specs.Prelude.{◌≡◌};
 ghost use Rattle.line_table.specs.Table.{line_table};
 

@@ -1,5 +1,7 @@
 // One line wanted during the show (request Q-4): it is read alone, then by its row's visit, and only if both fail by the whole repair.
 // Definition and promises are in `local_decoding`.
+#![tactic(auto)]
+
 ghost use Rattle.std.specs.Prelude.{◌≡◌, cond, ◌*◌, ◌/◌, ◌<◌, eqb};
 ghost use Rattle.scheme.specs.Visit.{cell_at};
 ghost use Rattle.rectangle.specs.Store.{in_bytes};

@@ -1,5 +1,7 @@
 // The parity lines: read alone before the first reading of the lines, and handed over after the last pass. Request Q-3.
 // Public for `repair`, which has tested or made what these ask; not entry points.
+#![tactic(auto)]
+
 ghost use Rattle.std.specs.Prelude.{◌≡◌, cond, ◌&&◌, ℕ, ◌*◌, ◌≤◌, eqb, length, replicate};
 ghost use Rattle.linecode.specs.Entry.{reading};
 ghost use Rattle.scheme.specs.Visit.{State};

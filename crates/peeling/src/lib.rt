@@ -1,6 +1,8 @@
 // What rebuilding alone would save (request Q-6): marks and passes from one byte for each line. A rebuilding takes one faulty line out of a
 // row or column that has no other, as a peeling decoder takes out erasures; beside each group stands how many of its lines are faulty, so
 // that a visit costs a look at that number. Definitions and promises are in `forecast`.
+#![tactic(auto)]
+
 mod counts;
 mod passes;
 mod pattern;

@@ -1,5 +1,7 @@
 // Reading a line alone where many are read: both sums of a line come from the lent table (document 000, III-C). Public for the crates
 // above, which bind the table once.
+#![tactic(auto)]
+
 ghost use Rattle.std.specs.Prelude.{◌≡◌, true, false};
 ghost use Rattle.gf2.specs.Check.{column_sum};
 ghost use Rattle.linecode.specs.Places.{places};

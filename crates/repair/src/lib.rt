@@ -1,4 +1,6 @@
 // Repair of a rectangle: document 01's steps on lent buffers. Document 01, "Repair".
+#![tactic(auto)]
+
 mod passes;
 
 ghost use Rattle.std.specs.Prelude.{◌≡◌, [], ◌++◌, ℕ, ◌*◌, ◌≤◌, length, replicate};

@@ -1,4 +1,6 @@
 // A table of 256 numbers that is read from number 256 on: LLVM would count the cases of a number of eight bits from -128.
+#![tactic(auto)]
+
 ghost use Rattle.std.specs.Prelude.{◌≡◌, get_or};
 ghost use Rattle.slice_table.specs.From256.{from256};
 

@@ -1,6 +1,8 @@
 // The CRC's tables for four to seven bytes after a byte, each paired with that for eight bytes more (above 2^32), as functions: a `match` compiles to
 // read-only data, where a constant array would be built anew at each call. Byte b is looked up as 256 + b, since LLVM would count the cases
 // of a number of eight bits from -128.
+#![tactic(auto)]
+
 ghost use Rattle.std.specs.Prelude.{◌≡◌, get_or};
 ghost use Rattle.slice_table.specs.From256.{from256};
 ghost use Rattle.slices_high.specs.Tables.{pair4, pair5, pair6, pair7};

@@ -1,5 +1,7 @@
 // Many lines: both sums of a line, for its CRC and for its Hamming bits, from one table that the entry point lends.
 // Public for the crates above, which bind the table once; what these functions ask, their entry points have made.
+#![tactic(auto)]
+
 ghost use Rattle.std.specs.Prelude.{◌≡◌, List, [], ◌∷◌, ◌++◌, ℕ, ◌+◌, ◌*◌, ◌/◌, ◌%◌, ◌^◌, ◌≤◌, ◌<◌, length, take, drop, get_or};
 ghost use Rattle.std.specs.Int.Bits.{bit_xor};
 ghost use Rattle.gf2.specs.Word.{digits};

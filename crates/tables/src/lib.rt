@@ -1,4 +1,6 @@
 // Making both parity tables from lines, each used as it reads alone. Document 01, "The rectangle".
+#![tactic(auto)]
+
 ghost use Rattle.std.specs.Prelude.{◌≡◌, true, ◌+◌, ◌*◌, ◌≤◌, length, take};
 ghost use Rattle.line_table.specs.Table.{line_table};
 ghost use Rattle.rectangle.specs.Store.{bytes_at};

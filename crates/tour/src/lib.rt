@@ -1,5 +1,7 @@
 // The wear report of a tour (request Q-5) as values; its definitions and promises stand in specs/, and their proofs here. Code that adds
 // and compares is in `wear`.
+#![tactic(auto)]
+
 use results::marks::Counts;
 
 // How many stores repair handed over with each of its answers 0, 11 and 12.

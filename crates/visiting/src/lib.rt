@@ -1,6 +1,8 @@
 // One visit of a group of lines on a line and a mark buffer, with nothing carried from visit to visit: the group is summed when its sum is
 // wanted. Document 01, "Repair".
 // Public for the crates that visit single groups, which have tested or made what it asks; not an entry point.
+#![tactic(auto)]
+
 ghost use Rattle.std.specs.Prelude.{◌≡◌, ◌/◌, ◌≤◌, length, take};
 ghost use Rattle.gf2.specs.Word.{◌⊕◌};
 ghost use Rattle.linecode.specs.Places.{places};

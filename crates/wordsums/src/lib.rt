@@ -1,4 +1,6 @@
 // The sum of the positions of a line's set places, by words of 64 bits: the Hamming bits of a single line, for which no table is lent.
+#![tactic(auto)]
+
 mod words;
 
 ghost use Rattle.std.specs.Prelude.{◌≡◌, ◌++◌, ◌*◌, ◌/◌, ◌%◌, ◌^◌, ◌<◌, take, replicate};
