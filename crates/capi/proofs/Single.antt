@@ -45,6 +45,13 @@ module _ (payload line : List ℕ) where
   unfolding write_refusal data_bytes line_bytes
   write-no-room e h = rw (eq-eqb (length payload) 64 e, ne_eqb (length line) 70 h)
 
+  pub no_data_refused : (length payload ≡ 64 → ⊥) → ◌≡◌ {A = Written} (record { answer = 7; line = line }) (write_line payload line)
+  no_data_refused h = write-refused 7 (write-no-data h) (λ z. omega arith)
+
+  pub no_room_refused : length payload ≡ 64 → (length line ≡ 70 → ⊥)
+      → ◌≡◌ {A = Written} (record { answer = 7; line = line }) (write_line payload line)
+  no_room_refused e h = write-refused 7 (write-no-room e h) (λ z. omega arith)
+
   pub write-given : (l : List ℕ) → length payload ≡ 64 → length line ≡ 70 → l ≡ written payload
       → ◌≡◌ {A = Written} (record { answer = 0; line = l }) (write_line payload line)
   unfolding write_line write_refusal data_bytes line_bytes

@@ -1,4 +1,4 @@
-// The C interface: the entry points over slices and numbers, for programs in other languages to link.
+// The C interface: the entry points over slices and numbers, for programs in other languages to link. `capi_c` exports them.
 // In C a slice is a pointer and a length; the mark, the passes, the number, the step and the order are each returned through a pointer, and
 // so are the eight numbers of a file's layout and of a check, which a C struct of eight fields holds.
 #![tactic(auto)]
@@ -43,8 +43,8 @@ fn store(line: [u8; 70], out: &mut [u8])
 }
 
 // A line written from 64 data bytes into `line`.
-#[unsafe(no_mangle)]
-pub extern "C" fn sudoku_write_line(payload: &[u8], line: &mut [u8]) -> u32
+#[tactic(auto, using(crate::proofs::Single::no_data_refused, crate::proofs::Single::no_room_refused))]
+pub fn sudoku_write_line(payload: &[u8], line: &mut [u8]) -> u32
     ensures { ◌≡◌ {A = Written}
         (record { answer = result; line = line.new })
         (write_line payload.now line.old) }
@@ -62,8 +62,7 @@ pub extern "C" fn sudoku_write_line(payload: &[u8], line: &mut [u8]) -> u32
 }
 
 // A line read alone into `out`, and its mark.
-#[unsafe(no_mangle)]
-pub extern "C" fn sudoku_read_line(line: &[u8], out: &mut [u8], mark: &mut u8) -> u32
+pub fn sudoku_read_line(line: &[u8], out: &mut [u8], mark: &mut u8) -> u32
     ensures { ◌≡◌ {A = Answered}
         (record { answer = result; line = out.new; mark = mark.new })
         (read_line line.now out.old) }
@@ -86,8 +85,7 @@ pub extern "C" fn sudoku_read_line(line: &[u8], out: &mut [u8], mark: &mut u8) -
 }
 
 // Both parity tables made from the lines.
-#[unsafe(no_mangle)]
-pub extern "C" fn sudoku_make_tables(
+pub fn sudoku_make_tables(
     rows: usize,
     columns: usize,
     lines: &[u8],
@@ -102,8 +100,7 @@ pub extern "C" fn sudoku_make_tables(
 }
 
 // Line n written anew from 64 data bytes, with its two parity lines, and the number that comes with 13 or 14.
-#[unsafe(no_mangle)]
-pub extern "C" fn sudoku_change_line(
+pub fn sudoku_change_line(
     rows: usize,
     columns: usize,
     lines: &mut [u8],
@@ -130,8 +127,7 @@ pub extern "C" fn sudoku_change_line(
 }
 
 // Repair of the lines into `out` and `marks`, of the tables into `row_out` and `column_out`, and its passes.
-#[unsafe(no_mangle)]
-pub extern "C" fn sudoku_repair(
+pub fn sudoku_repair(
     rows: usize,
     columns: usize,
     lines: &[u8],
@@ -172,8 +168,7 @@ pub extern "C" fn sudoku_repair(
 
 // Line n read alone into `line`, then by its row's visit, then by the whole repair, with its mark and the last step taken. The four buffers
 // before `line` are room to work in.
-#[unsafe(no_mangle)]
-pub extern "C" fn sudoku_read_one(
+pub fn sudoku_read_one(
     rows: usize,
     columns: usize,
     lines: &[u8],
@@ -201,7 +196,7 @@ pub extern "C" fn sudoku_read_one(
             column_table = column_room.new;
           };
         })
-        (read_one rows columns lines.entry.now row_table.now column_table.now n
+        (read_one rows columns lines.now row_table.now column_table.now n
         (record {
           lines = out.old;
           marks = marks.old;
@@ -229,8 +224,7 @@ pub extern "C" fn sudoku_read_one(
 }
 
 // What rebuilding alone would save, from a byte for each line: the marks, and the passes.
-#[unsafe(no_mangle)]
-pub extern "C" fn sudoku_forecast(
+pub fn sudoku_forecast(
     rows: usize,
     columns: usize,
     faulty: &[u8],
@@ -247,18 +241,16 @@ pub extern "C" fn sudoku_forecast(
 }
 
 // A repair result taken into a wear report of ten numbers.
-#[unsafe(no_mangle)]
-pub extern "C" fn sudoku_wear_add(wear: &mut [u64], marks: &[u8], answer: u32) -> u32
+pub fn sudoku_wear_add(wear: &mut [u64], marks: &[u8], answer: u32) -> u32
     ensures { ◌≡◌ {A = NumbersAdded}
         (record { answer = result; numbers = wear.new })
-        (add_numbers wear.old (record { marks = marks.entry.now; answer = answer })) }
+        (add_numbers wear.old (record { marks = marks.now; answer = answer })) }
 {
     numbers::add_numbers(wear, marks, answer)
 }
 
 // The shares of rebuilt lines of two wear reports compared, and their order.
-#[unsafe(no_mangle)]
-pub extern "C" fn sudoku_wear_compare(a: &[u64], b: &[u64], order: &mut u32) -> u32
+pub fn sudoku_wear_compare(a: &[u64], b: &[u64], order: &mut u32) -> u32
     ensures { record { answer = result; order = order.new } ≡ compare_numbers a.now b.now }
 {
     let compared = numbers::compare_numbers(a, b);
@@ -267,8 +259,7 @@ pub extern "C" fn sudoku_wear_compare(a: &[u64], b: &[u64], order: &mut u32) -> 
 }
 
 // A store file opened: its rows and columns, and the offset and length of lines, row table and column table.
-#[unsafe(no_mangle)]
-pub extern "C" fn sudoku_open_file(file: &[u8], layout: &mut [u64; 8]) -> u32
+pub fn sudoku_open_file(file: &[u8], layout: &mut [u64; 8]) -> u32
     ensures { record { answer = result; numbers = layout.new } ≡ layout_in file.now }
 {
     let found = places::layout_of(file);
@@ -278,8 +269,7 @@ pub extern "C" fn sudoku_open_file(file: &[u8], layout: &mut [u64; 8]) -> u32
 }
 
 // The header of a store file of given rows and columns.
-#[unsafe(no_mangle)]
-pub extern "C" fn sudoku_write_header(rows: usize, columns: usize, header: &mut [u8]) -> u32
+pub fn sudoku_write_header(rows: usize, columns: usize, header: &mut [u8]) -> u32
     ensures { ◌≡◌ {A = HeaderWritten}
         (record { answer = result; out = header.new })
         (write_header rows columns header.old) }
@@ -288,16 +278,14 @@ pub extern "C" fn sudoku_write_header(rows: usize, columns: usize, header: &mut 
 }
 
 // How many bytes of a file a reader needs that has its first 28.
-#[unsafe(no_mangle)]
-pub extern "C" fn sudoku_bytes_needed(start: &[u8]) -> usize
+pub fn sudoku_bytes_needed(start: &[u8]) -> usize
     ensures { result ≡ bytes_needed 512 start.now }
 {
     opening::bytes_needed(512, start)
 }
 
 // A check of a whole store file: its store repaired into the four buffers, and the report's numbers.
-#[unsafe(no_mangle)]
-pub extern "C" fn sudoku_check_file(
+pub fn sudoku_check_file(
     file: &[u8],
     out: &mut [u8],
     marks: &mut [u8],

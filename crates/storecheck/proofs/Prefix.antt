@@ -1,11 +1,7 @@
 -- A part at the start of a buffer, and how many bytes are needed at the most.
-use mathlib.Core.Path.{◌≡◌, sym}
-use mathlib.Core.List.{List}
-use Prim.Native.Nat.{ℕ, ◌≤◌}
-use native.Mathlib.Omega.{arith}
-use lib.ListN.{length, take}
-use lib.Seq.{length-take-le}
-use Rattle.io.specs.Counts.{IsPrefixLen}
+use Rattle.std.proofs.Common.{◌≡◌, ℕ, ◌≤◌, List, length, take, sym, arith}
+use Rattle.std.proofs.lemmas.List.{length-take-le}
+use Rattle.storecheck.specs.Counts.{IsPrefixLen}
 use Rattle.storefile.specs.Opening.{bytes_needed}
 use Rattle.storefile.proofs.Needed.{needed-least, needed-most}
 

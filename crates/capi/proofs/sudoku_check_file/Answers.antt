@@ -1,0 +1,7 @@
+-- `capi::sudoku_check_file` meets its contract.
+use Rattle.capi.proofs.Files.{file-checked}
+use Rattle.capi.proofs.sudoku_check_file.Goals as goal
+
+pub returns : goal.returns
+returns c =
+    file-checked _ _ _ _ c.check-checked.ensures c.numbers.ensures

@@ -1,0 +1,268 @@
+// The library for C: each function of `capi` exported under its name, with its clauses. include/sudoku.h declares them.
+// In C a slice is a pointer and a length; the mark, the passes, the number, the step and the order are each returned through a pointer, and
+// so are the eight numbers of a file's layout and of a check, which a C struct of eight fields holds.
+#![tactic(auto)]
+
+ghost use Rattle.std.specs.Prelude.{◌≡◌};
+ghost use Rattle.rectangle.specs.Tables.{TablesMade, make_tables};
+ghost use Rattle.rectangle.specs.Change.{LineChanged, change_line};
+ghost use Rattle.rectangle.specs.Repair.{StoreRepaired, repair_store};
+ghost use Rattle.local_decoding.specs.Lookup.{OneRead, read_one};
+ghost use Rattle.forecast.specs.Forecast.{Forecast, forecast};
+ghost use Rattle.tour.specs.Numbers.{NumbersAdded, add_numbers, compare_numbers};
+ghost use Rattle.storefile.specs.Header.{HeaderWritten, write_header};
+ghost use Rattle.storefile.specs.Opening.{bytes_needed};
+ghost use Rattle.storefile.specs.Layout.{layout_in};
+ghost use Rattle.report.specs.Check.{lent};
+ghost use Rattle.report.specs.Numbers.{FileChecked, check_file};
+ghost use Rattle.capi.specs.Single.{Written, write_line, Answered, read_line};
+
+// A line written from 64 data bytes into `line`.
+#[unsafe(no_mangle)]
+pub extern "C" fn sudoku_write_line(payload: &[u8], line: &mut [u8]) -> u32
+    ensures { ◌≡◌ {A = Written}
+        (record { answer = result; line = line.new })
+        (write_line payload.now line.old) }
+{
+    capi::sudoku_write_line(payload, line)
+}
+
+// A line read alone into `out`, and its mark.
+#[unsafe(no_mangle)]
+pub extern "C" fn sudoku_read_line(line: &[u8], out: &mut [u8], mark: &mut u8) -> u32
+    ensures { ◌≡◌ {A = Answered}
+        (record { answer = result; line = out.new; mark = mark.new })
+        (read_line line.now out.old) }
+{
+    capi::sudoku_read_line(line, out, mark)
+}
+
+// Both parity tables made from the lines.
+#[unsafe(no_mangle)]
+pub extern "C" fn sudoku_make_tables(
+    rows: usize,
+    columns: usize,
+    lines: &[u8],
+    row_table: &mut [u8],
+    column_table: &mut [u8],
+) -> u32
+    ensures { ◌≡◌ {A = TablesMade}
+        (record { answer = result; row_table = row_table.new; column_table = column_table.new })
+        (make_tables rows columns lines.now row_table.old column_table.old) }
+{
+    capi::sudoku_make_tables(rows, columns, lines, row_table, column_table)
+}
+
+// Line n written anew from 64 data bytes, with its two parity lines, and the number that comes with 13 or 14.
+#[unsafe(no_mangle)]
+pub extern "C" fn sudoku_change_line(
+    rows: usize,
+    columns: usize,
+    lines: &mut [u8],
+    row_table: &mut [u8],
+    column_table: &mut [u8],
+    n: usize,
+    payload: &[u8],
+    number: &mut u64,
+) -> u32
+    ensures { ◌≡◌ {A = LineChanged}
+        (record {
+          answer = result;
+          number = number.new;
+          lines = lines.new;
+          row_table = row_table.new;
+          column_table = column_table.new;
+        })
+        (change_line rows columns lines.old row_table.old column_table.old n
+        payload.now) }
+{
+    capi::sudoku_change_line(
+        rows,
+        columns,
+        lines,
+        row_table,
+        column_table,
+        n,
+        payload,
+        number,
+    )
+}
+
+// Repair of the lines into `out` and `marks`, of the tables into `row_out` and `column_out`, and its passes.
+#[unsafe(no_mangle)]
+pub extern "C" fn sudoku_repair(
+    rows: usize,
+    columns: usize,
+    lines: &[u8],
+    row_table: &[u8],
+    column_table: &[u8],
+    out: &mut [u8],
+    marks: &mut [u8],
+    row_out: &mut [u8],
+    column_out: &mut [u8],
+    passes: &mut u64,
+) -> u32
+    ensures { ◌≡◌ {A = StoreRepaired}
+        (record {
+          answer = result;
+          passes = passes.new;
+          lines = out.new;
+          marks = marks.new;
+          row_table = row_out.new;
+          column_table = column_out.new;
+        })
+        (repair_store rows columns lines.now row_table.now column_table.now
+        out.old marks.old row_out.old column_out.old) }
+{
+    capi::sudoku_repair(
+        rows,
+        columns,
+        lines,
+        row_table,
+        column_table,
+        out,
+        marks,
+        row_out,
+        column_out,
+        passes,
+    )
+}
+
+// Line n read alone into `line`, then by its row's visit, then by the whole repair, with its mark and the last step taken. The four buffers
+// before `line` are room to work in.
+#[unsafe(no_mangle)]
+pub extern "C" fn sudoku_read_one(
+    rows: usize,
+    columns: usize,
+    lines: &[u8],
+    row_table: &[u8],
+    column_table: &[u8],
+    n: usize,
+    out: &mut [u8],
+    marks: &mut [u8],
+    row_room: &mut [u8],
+    column_room: &mut [u8],
+    line: &mut [u8],
+    mark: &mut u8,
+    step: &mut u32,
+) -> u32
+    ensures { ◌≡◌ {A = OneRead}
+        (record {
+          answer = result;
+          step = step.new;
+          mark = mark.new;
+          line = line.new;
+          work = record {
+            lines = out.new;
+            marks = marks.new;
+            row_table = row_room.new;
+            column_table = column_room.new;
+          };
+        })
+        (read_one rows columns lines.now row_table.now column_table.now n
+        (record {
+          lines = out.old;
+          marks = marks.old;
+          row_table = row_room.old;
+          column_table = column_room.old;
+        })
+        line.old) }
+{
+    capi::sudoku_read_one(
+        rows,
+        columns,
+        lines,
+        row_table,
+        column_table,
+        n,
+        out,
+        marks,
+        row_room,
+        column_room,
+        line,
+        mark,
+        step,
+    )
+}
+
+// What rebuilding alone would save, from a byte for each line: the marks, and the passes.
+#[unsafe(no_mangle)]
+pub extern "C" fn sudoku_forecast(
+    rows: usize,
+    columns: usize,
+    faulty: &[u8],
+    marks: &mut [u8],
+    passes: &mut u64,
+) -> u32
+    ensures { ◌≡◌ {A = Forecast}
+        (record { answer = result; passes = passes.new; marks = marks.new })
+        (forecast rows columns faulty.now marks.old) }
+{
+    capi::sudoku_forecast(rows, columns, faulty, marks, passes)
+}
+
+// A repair result taken into a wear report of ten numbers.
+#[unsafe(no_mangle)]
+pub extern "C" fn sudoku_wear_add(wear: &mut [u64], marks: &[u8], answer: u32) -> u32
+    ensures { ◌≡◌ {A = NumbersAdded}
+        (record { answer = result; numbers = wear.new })
+        (add_numbers wear.old (record { marks = marks.now; answer = answer })) }
+{
+    capi::sudoku_wear_add(wear, marks, answer)
+}
+
+// The shares of rebuilt lines of two wear reports compared, and their order.
+#[unsafe(no_mangle)]
+pub extern "C" fn sudoku_wear_compare(a: &[u64], b: &[u64], order: &mut u32) -> u32
+    ensures { record { answer = result; order = order.new } ≡ compare_numbers a.now b.now }
+{
+    capi::sudoku_wear_compare(a, b, order)
+}
+
+// A store file opened: its rows and columns, and the offset and length of lines, row table and column table.
+#[unsafe(no_mangle)]
+pub extern "C" fn sudoku_open_file(file: &[u8], layout: &mut [u64; 8]) -> u32
+    ensures { record { answer = result; numbers = layout.new } ≡ layout_in file.now }
+{
+    capi::sudoku_open_file(file, layout)
+}
+
+// The header of a store file of given rows and columns.
+#[unsafe(no_mangle)]
+pub extern "C" fn sudoku_write_header(rows: usize, columns: usize, header: &mut [u8]) -> u32
+    ensures { ◌≡◌ {A = HeaderWritten}
+        (record { answer = result; out = header.new })
+        (write_header rows columns header.old) }
+{
+    capi::sudoku_write_header(rows, columns, header)
+}
+
+// How many bytes of a file a reader needs that has its first 28.
+#[unsafe(no_mangle)]
+pub extern "C" fn sudoku_bytes_needed(start: &[u8]) -> usize
+    ensures { result ≡ bytes_needed 512 start.now }
+{
+    capi::sudoku_bytes_needed(start)
+}
+
+// A check of a whole store file: its store repaired into the four buffers, and the report's numbers.
+#[unsafe(no_mangle)]
+pub extern "C" fn sudoku_check_file(
+    file: &[u8],
+    out: &mut [u8],
+    marks: &mut [u8],
+    row_out: &mut [u8],
+    column_out: &mut [u8],
+    found: &mut [u64; 8],
+) -> u32
+    ensures { ◌≡◌ {A = FileChecked}
+        (record {
+          answer = result;
+          numbers = found.new;
+          buffers = lent out.new marks.new row_out.new column_out.new;
+        })
+        (check_file file.now
+        (lent out.old marks.old row_out.old column_out.old)) }
+{
+    capi::sudoku_check_file(file, out, marks, row_out, column_out, found)
+}

@@ -1,0 +1,2 @@
+-- What the contracts of the program's reading cite.
+pub mod Counts
