@@ -1,6 +1,6 @@
 -- A rectangle and a pattern as the forecast's promises ask for them: a 2 by 2 store of zero lines, of which line 0 is hurt at two places.
 use mathlib.Core.Path.{◌≡◌, refl, sym, ◌∙◌}
-use mathlib.Core.Bool.{true, false}
+use mathlib.Core.Bool.{false}
 use mathlib.Core.List.{List, [], ◌∷◌}
 use Prim.Native.Nat.{ℕ, zero, suc, ◌<◌}
 use native.Mathlib.Omega.{arith}

@@ -94,3 +94,5 @@ module _ (rows columns : ℕ) (lines row_table column_table : List ℕ) where
         (change_line rows columns lines row_table column_table n payload)
     change-made new_lines new_rows new_columns e f g h =
         rw (f, g, h) (sym (Runs.change-runs rows columns lines row_table column_table n payload 0 e refl))
+
+pub ruleset refusing = (change-refused)

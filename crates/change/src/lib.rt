@@ -106,6 +106,7 @@ fn number_with(answer: u32, columns: usize, n: usize) -> usize
 }
 
 // Line n written anew from 64 data bytes: 0 and 0, or the first refusal that fits, which writes nothing, and its number.
+#[tactic(auto, using(crate::proofs::Refusing::refusing))]
 pub fn change_line(
     rows: usize,
     columns: usize,

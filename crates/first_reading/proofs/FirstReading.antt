@@ -13,7 +13,7 @@ use Rattle.scheme.specs.Layer.{Cell, read_line}
 use Rattle.scheme.specs.Visit.{State, cell_at, line_at}
 use Rattle.scheme.specs.Repair.{read_all, lines_of, marks_of}
 use Rattle.scheme.proofs.Width.{Wide, wide_at}
-use Rattle.rectangle.specs.Store.{line_layer, bytes_at, places_at, lines_in, buffer_of, put_line, alone_at}
+use Rattle.rectangle.specs.Store.{line_layer, bytes_at, lines_in, buffer_of, put_line, alone_at}
 use Rattle.rectangle.proofs.LineLayer.{kept}
 use Rattle.rectangle.proofs.Spare.{bytes-is}
 use Rattle.rectangle.proofs.Buffer.{length-buffer_of, bytes_at-buffer_of}

@@ -1,16 +1,15 @@
 -- The check bits of a cyclic code: the only ones that make a word divisible, and how a register works them out.
 use mathlib.Core.Path.{◌≡◌, refl, sym, ap, ap₂, ◌∙◌}
-use mathlib.Core.Bool.{Bool, true, false, ◌&&◌}
-use mathlib.Core.List.{List, [], ◌∷◌, ◌++◌, append_assoc, append-nil}
-use Prim.Native.Nat.{ℕ, zero, suc, ◌+◌, ◌≤◌}
-use native.Mathlib.Nat.{suc_inj, suc-add, add-suc, le_of_suc-le-suc}
+use mathlib.Core.Bool.{false}
+use mathlib.Core.List.{[], ◌∷◌, ◌++◌, append_assoc, append-nil}
+use Prim.Native.Nat.{ℕ, zero, suc, ◌+◌}
 use native.Mathlib.Omega.{arith}
-use lib.ListN.{length, length-append, length-map, length-replicate}
-use Rattle.gf2.specs.Word.{Word, ◌⊻◌, ◌⊕◌, zeros, is_zero, same}
+use lib.ListN.{length, length-append, length-replicate}
+use Rattle.gf2.specs.Word.{Word, ◌⊕◌, zeros, is_zero, same}
 use Rattle.gf2.specs.Polynomial.{◌·◌, divide_step, divide, remainder}
 use Rattle.gf2.specs.Check.{divisible, crc}
-use Rattle.gf2.proofs.Xor.{xor_comm, xor_assoc, xor-swap, xor-zeros, xor-append, xor-nil, length-xor, bit-zero-l}
-use Rattle.gf2.proofs.Linear.{divide-xor, length-divide, length-remainder}
+use Rattle.gf2.proofs.Xor.{xor_comm, xor-zeros}
+use Rattle.gf2.proofs.Linear.{divide-xor, length-remainder}
 use Rattle.gf2.proofs.Same.{is_zero-xor}
 
 -- ---- zeros

@@ -11,7 +11,7 @@ use lib.Dec.{eqb}
 use lib.ListN.{length, get_or}
 use lib.Pow.{pow_pos, shr-shr}
 use Rattle.gf2.specs.Word.{Word, ◌⊻◌, ◌⊕◌, zeros, digits, number}
-use Rattle.gf2.specs.Check.{bit}
+use Rattle.gf2.specs.Check.{bit, DigitsAreBits}
 
 pub length_digits : (k n : ℕ) → length (digits k n) ≡ k
 length_digits zero n = refl
@@ -163,6 +163,9 @@ get_or-digits (suc k) n zero h = ap (λ (m : ℕ). eqb (m % 2) 1) (one n)
 get_or-digits (suc k) n (suc i) h =
     get_or-digits k (n / 2) i (le_of_suc-le-suc h)
     ∙ ap (λ (m : ℕ). eqb (m % 2) 1) (shr-shr n 1 i ∙ ap (λ (j : ℕ). n / 2 ^ j) (suc-add 0 i ∙ ap suc (zero-add i)))
+
+pub digits_are_bits : DigitsAreBits
+digits_are_bits = get_or-digits
 
 pub number_append : (x y : Word) → number (x ++ y) ≡ number x + 2 ^ length x * number y
 number_append [] y = omega arith

@@ -1,11 +1,10 @@
 -- The distance of the code: a divisible word of at most 1023 places with at most seven set has none set.
 use mathlib.Core.Path.{◌≡◌, ap, ◌∙◌}
-use Prim.Native.Nat.{ℕ, ◌*◌, ◌≤◌, ◌<◌}
+use Prim.Native.Nat.{ℕ, ◌*◌, ◌<◌}
 use native.Mathlib.Omega.{arith}
-use lib.Dec.{T, lit<}
+use lib.Dec.{lit<}
 use lib.ListN.{length}
-use Rattle.gf2.specs.Word.{Word, ◌⊕◌, zeros, weight, distance}
-use Rattle.gf2.specs.Check.{divisible}
+use Rattle.gf2.specs.Word.{◌⊕◌, zeros, weight}
 use Rattle.gf2.specs.Generator.{generator}
 use Rattle.gf2.specs.Distance.{DistanceEight, DivisibleEqual}
 use Rattle.gf2.proofs.Xor.{length-xor-same, xor-equal}

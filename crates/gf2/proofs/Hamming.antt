@@ -1,17 +1,17 @@
 -- Parity, Hamming bits and the sum of columns are linear, for any width and any columns.
 use mathlib.Core.Path.{◌≡◌, refl, sym, ap, ap₂, ◌∙◌}
-use mathlib.Core.Bool.{Bool, true, false, not, ◌&&◌}
+use mathlib.Core.Bool.{Bool, true, false, ◌&&◌}
 use mathlib.Core.List.{List, [], ◌∷◌, ◌++◌, map}
-use Prim.Native.Nat.{ℕ, zero, suc, ◌+◌, ◌/◌, ◌%◌, ◌^◌, ◌<◌}
+use Prim.Native.Nat.{ℕ, zero, suc, ◌/◌, ◌%◌, ◌^◌, ◌<◌}
 use native.Mathlib.Nat.{suc_inj, div-eq_of_lt}
 use native.Mathlib.Omega.{arith}
-use lib.Bits.{bit_xor, xor_shr, xor_lt, xor_comm as bit_xor-comm, xor_self as bit_xor-self, xor_zero_r}
+use lib.Bits.{bit_xor, xor_shr, xor_comm as bit_xor-comm, xor_self as bit_xor-self, xor_zero_r}
 use lib.Dec.{eqb}
 use lib.ListN.{length, get_or}
 use lib.Pow.{pow_pos}
-use Rattle.gf2.specs.Word.{Word, ◌⊻◌, ◌⊕◌, zeros, parity, flip}
+use Rattle.gf2.specs.Word.{Word, ◌⊻◌, ◌⊕◌, parity, flip}
 use Rattle.gf2.specs.Check.{masked, bit, hamming_bit, column_sum}
-use Rattle.gf2.proofs.Xor.{bit-zero-l, bit-swap, bit-comm, bit-assoc}
+use Rattle.gf2.proofs.Xor.{bit-zero-l, bit-swap, bit-comm}
 use Rattle.gf2.proofs.Digits.{low-xor, bit_xor-assoc}
 
 pub parity-xor : (x y : Word) → parity (x ⊕ y) ≡ parity x ⊻ parity y

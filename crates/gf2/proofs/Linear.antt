@@ -2,14 +2,14 @@
 use mathlib.Core.Path.{◌≡◌, refl, sym, ap, ap₂, subst, ◌∙◌}
 use mathlib.Core.Bool.{Bool, true, false, ◌&&◌}
 use mathlib.Core.List.{[], ◌∷◌, ◌++◌}
-use Prim.Native.Nat.{ℕ, zero, suc, max}
+use Prim.Native.Nat.{ℕ, zero, suc, ◌+◌, max}
 use native.Mathlib.Nat.{suc_inj}
 use native.Mathlib.Omega.{arith}
 use lib.Dec.{T}
 use lib.ListN.{length, length-append, length-map, length-replicate}
 use Rattle.gf2.specs.Word.{Word, ◌⊻◌, ◌⊕◌, zeros, is_zero}
 use Rattle.gf2.specs.Polynomial.{◌·◌, divide_step, divide, remainder}
-use Rattle.gf2.specs.Check.{divisible}
+use Rattle.gf2.specs.Check.{divisible, crc}
 use Rattle.gf2.proofs.Xor.{bit-zero-l, xor-swap, xor_self, xor-append, length-xor}
 
 bit-scale : (a b c : Bool) → (a ⊻ b) && c ≡ (a && c) ⊻ (b && c)
@@ -59,6 +59,17 @@ remainder-xor g x y e =
   where
     o : Word
     o = zeros (length g)
+
+pub crc-xor : (g x y : Word) → length x ≡ length y → crc g (x ⊕ y) ≡ crc g x ⊕ crc g y
+crc-xor g x y e =
+    ap (remainder g) (sym (xor-append x y o o e ∙ ap (λ (z : Word). (x ⊕ y) ++ z) twice))
+    ∙ remainder-xor g (x ++ o) (y ++ o) (length-append x o ∙ ap (λ (n : ℕ). n + length o) e ∙ sym (length-append y o))
+  where
+    o : Word
+    o = zeros (length g)
+
+    twice : o ⊕ o ≡ o
+    twice = xor_self o ∙ ap zeros (length-replicate (length g) false)
 
 pub length-divide : (g r w : Word) → length r ≡ length g → length (divide g r w) ≡ length g
 length-divide g r [] e = e

@@ -1,19 +1,19 @@
 -- The register that works a CRC out: it takes the word in at its highest coefficient, a bit or eight bits at a step.
 use mathlib.Core.Path.{◌≡◌, refl, sym, ap, ap₂, ◌∙◌, subst}
-use mathlib.Core.Bool.{Bool, true, false, ◌&&◌}
-use mathlib.Core.List.{List, [], ◌∷◌, ◌++◌, append_assoc, append-nil}
+use mathlib.Core.Bool.{Bool, false, ◌&&◌}
+use mathlib.Core.List.{[], ◌∷◌, ◌++◌, append-nil}
 use Prim.Native.Nat.{ℕ, zero, suc, ◌+◌, ◌/◌, ◌%◌, ◌^◌, ◌≤◌, ◌<◌, max}
 use native.Mathlib.Nat.{suc_inj, le_of_suc-le-suc, not-suc-le-zero, div-eq_of_lt, mod-lt, add_comm}
 use native.Mathlib.Omega.{arith}
 use lib.Bits.{bit_xor}
-use lib.ListN.{length, take, drop, length-append, length-map, length-replicate, take-append-drop}
+use lib.ListN.{length, length-append, length-map, length-replicate}
 use lib.Pow.{shr_lt, pow_pos}
-use Rattle.gf2.specs.Word.{Word, ◌⊻◌, ◌⊕◌, zeros, digits, number}
-use Rattle.gf2.specs.Polynomial.{◌·◌, divide_step, divide, remainder}
+use Rattle.gf2.specs.Word.{Word, ◌⊻◌, ◌⊕◌, zeros, digits}
+use Rattle.gf2.specs.Polynomial.{◌·◌, divide_step, divide}
 use Rattle.gf2.specs.Check.{crc}
-use Rattle.gf2.proofs.Xor.{xor_comm, xor_assoc, xor-swap, xor-zeros, xor-append, xor-nil, length-xor, bit-zero-l}
+use Rattle.gf2.proofs.Xor.{xor_comm, xor_assoc, xor-zeros, xor-append, xor-nil, length-xor, bit-zero-l}
 use Rattle.gf2.proofs.Linear.{scale-xor, divide-xor, length-divide, length-divide_step}
-use Rattle.gf2.proofs.Crc.{zeros-snoc, zeros-xor, scale-false, divide-append, shift_in}
+use Rattle.gf2.proofs.Crc.{zeros-snoc, zeros-xor, divide-append, shift_in}
 use Rattle.gf2.proofs.Digits.{length_digits, digits-zero, digits-xor, digits-add, digits_mod}
 
 abbrev pub feed_step : Word → Word → Bool → Word

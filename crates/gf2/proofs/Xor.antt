@@ -1,12 +1,12 @@
 -- Exclusive or of bits and of words: the laws of a group in which each element is its own inverse.
 use mathlib.Core.Path.{◌≡◌, refl, sym, ap, ap₂, ◌∙◌}
-use mathlib.Core.Bool.{Bool, true, false, not}
-use mathlib.Core.List.{List, [], ◌∷◌, ◌++◌}
-use Prim.Native.Nat.{ℕ, zero, suc, ◌+◌, ◌≤◌, max}
+use mathlib.Core.Bool.{Bool, true, false}
+use mathlib.Core.List.{[], ◌∷◌, ◌++◌}
+use Prim.Native.Nat.{ℕ, zero, suc, ◌≤◌, max}
 use native.Mathlib.Nat.{le_of_suc-le-suc, not-suc-le-zero, zero-max, max-zero, suc-max-suc, suc_inj}
 use native.Mathlib.Omega.{arith}
-use lib.ListN.{length, take, drop, get_or, replicate}
-use Rattle.gf2.specs.Word.{Word, ◌⊻◌, ◌⊕◌, zeros, weight, distance}
+use lib.ListN.{length, take, drop}
+use Rattle.gf2.specs.Word.{Word, ◌⊻◌, ◌⊕◌, zeros}
 
 pub bit-zero-l : (a : Bool) → false ⊻ a ≡ a
 bit-zero-l false = refl

@@ -1,5 +1,5 @@
 -- The generator of document 01: that of the binary BCH code of length 1023 with roots a^0 to a^6.
-use Rattle.std.specs.Prelude.{◌≡◌, true, List, [], ◌∷◌, reverse, ℕ, take, drop}
+use Rattle.std.specs.Prelude.{◌≡◌, true, [], ◌∷◌, reverse, take, drop}
 use Rattle.gf2.specs.Word.{Word, number}
 use Rattle.gf2.specs.Polynomial.{powers, product}
 

@@ -1,5 +1,5 @@
 -- Polynomials over two elements: products, and the remainder by a generator of any degree.
-use Rattle.std.specs.Prelude.{Bool, true, false, ◌&&◌, List, [], ◌∷◌, ◌++◌, map, ℕ, zero, suc, length}
+use Rattle.std.specs.Prelude.{Bool, true, false, ◌&&◌, List, [], ◌∷◌, ◌++◌, map, ℕ, length}
 use Rattle.gf2.specs.Word.{Word, ◌⊕◌, zeros}
 
 infixl 70 ◌·◌

@@ -1,6 +1,6 @@
 -- The roots of the generator. Document 01: its factors are those of the binary BCH code of length 1023 with roots a^0 to a^6, a being a
 -- root of x^10+x^3+1. The field's 1024 elements are the remainders by x^10+x^3+1, highest coefficient first; their sum is exclusive or.
-use Rattle.std.specs.Prelude.{◌≡◌, true, List, [], ◌∷◌, reverse, ℕ, zero, suc, ◌*◌, ◌≤◌, ◌<◌, take}
+use Rattle.std.specs.Prelude.{◌≡◌, true, [], ◌∷◌, reverse, ℕ, suc, ◌*◌, ◌≤◌, ◌<◌, take}
 use Rattle.gf2.specs.Word.{Word, ◌⊕◌, zeros}
 use Rattle.gf2.specs.Polynomial.{◌·◌, powers, remainder}
 use Rattle.gf2.specs.Generator.{generator_polynomial}

@@ -1,5 +1,5 @@
 -- Words of bits, of any width. A word is the list of its places, place 0 first; a bit is a Bool.
-use Rattle.std.specs.Prelude.{Bool, true, false, not, ◌&&◌, List, [], ◌∷◌, ◌++◌, ℕ, zero, suc, ◌+◌, ◌*◌, ◌/◌, ◌%◌, eqb, replicate}
+use Rattle.std.specs.Prelude.{Bool, true, false, not, ◌&&◌, List, [], ◌∷◌, ℕ, zero, suc, ◌*◌, ◌/◌, ◌%◌, eqb, replicate}
 
 infixl 65 ◌⊻◌
 infixl 60 ◌⊕◌

@@ -35,8 +35,8 @@ listing-zero line e z =
     record { room = refl; few = λ h. sym (zero-no-places line e (sym z)); many = λ h. let y : ⊥ = omega arith in absurd y }
 
 -- a line with many busy bytes has many
-pub listing-busy : (all : List ℕ) (busy : ℕ) → 6 < busy → busy ≤ length all → Listed all 7 (replicate 6 0)
-listing-busy all busy h e = record { room = refl; few = λ k. let y : ⊥ = omega arith in absurd y; many = λ k. omega arith }
+pub listing_busy : (all : List ℕ) (busy : ℕ) → 6 < busy → busy ≤ length all → Listed all 7 (replicate 6 0)
+listing_busy all busy h e = record { room = refl; few = λ k. let y : ⊥ = omega arith in absurd y; many = λ k. omega arith }
 
 -- the same with the array or the number under another name
 pub relist-array : (w : Word) (a b : List ℕ) (count i : ℕ) → a ≡ b → Listing w b count i → Listing w a count i

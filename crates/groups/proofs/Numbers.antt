@@ -14,7 +14,6 @@ use Rattle.rectangle.specs.Store.{row, column}
 use Rattle.rectangle.proofs.Groups.{in_row, row_number, row_inside, row_below, in-column, column-number, column-inside, rising-row, rising-column}
 use Rattle.rectangle.proofs.Stride.{length-stride}
 use Rattle.groups.specs.Lent.{which_of, number_of, Within, members_of, Numbered}
-use Rattle.groups.specs.declared.tracked.Which.{Which}
 use Rattle.groups.specs.declared.tracked.Which.TheVariants.{Row, Column}
 
 -- ---- group k as a row or a column

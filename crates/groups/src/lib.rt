@@ -25,7 +25,7 @@ pub struct Places {
 }
 
 // A group with its lines: the first one's number, the step from one to the next, and their count.
-#[derive(Drop)]
+#[derive(Clone, Copy)]
 pub struct Chosen {
     pub which: Which,
     pub first: usize,
@@ -189,6 +189,7 @@ fn busy_bytes(line: [u8; 70]) -> usize
 
 // The set places of a line in rising order. A line of zeros has none, and from the seventh on they are not looked for: where lines are
 // hurt past repair, most differences have many, and their busy bytes tell so at once.
+#[tactic(auto, using(crate::proofs::Listing::listing_busy))]
 pub fn set_places(line: [u8; 70]) -> Places
     ensures { Listed (set_places 0 (places line)) result.count result.at }
 {

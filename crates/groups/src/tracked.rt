@@ -10,7 +10,7 @@ use rectangle::lines;
 use rectangle::lines::{ColumnIndex, RowIndex};
 
 // A group: a row or a column, each by its own number.
-#[derive(Drop)]
+#[derive(Clone, Copy)]
 pub enum Which {
     Row(RowIndex),
     Column(ColumnIndex),

@@ -8,11 +8,11 @@ use lib.Dec.{T}
 use lib.ListN.{drop}
 use Rattle.gf2.specs.Word.{digits}
 use Rattle.gf2.specs.Check.{column_sum}
-use Rattle.register.specs.Slices.{up_from, slice_table}
+use Rattle.register.specs.Slices.{up_from}
 use Rattle.register.proofs.TableRule.{alike, alike-sound, is_slice_table, slice-table}
 use Rattle.linecode.specs.Places.{hamming_places}
 use Rattle.linecode.specs.Code.{positions, hamming_columns}
-use Rattle.line_table.specs.Table.{field, fields, fields_at, beside, line_table}
+use Rattle.line_table.specs.Table.{field, fields, beside, line_table}
 
 -- the fields as numbers, so that the test of the table need not work them out again for each entry
 unfoldable pub field_numbers : List ℕ

@@ -1,5 +1,5 @@
 -- Bytes and their bits: bits and bytes undo one another.
-use mathlib.Core.Path.{◌≡◌, refl, sym, ap, ap₂, ◌∙◌, subst}
+use mathlib.Core.Path.{◌≡◌, refl, sym, ap, ap₂, ◌∙◌}
 use mathlib.Core.Bool.{Bool, true, false, not}
 use mathlib.Core.List.{List, [], ◌∷◌, ◌++◌, append-nil}
 use Prim.Native.Nat.{ℕ, zero, suc, ◌+◌, ◌*◌, ◌/◌, ◌%◌, ◌^◌, ◌≤◌, ◌<◌}
@@ -11,7 +11,7 @@ use lib.Dec.{eqb}
 use lib.ListN.{length, take, drop, get_or, set, length-take, length-drop, take-append-drop, drop_of_length-le, get_or-append}
 use lib.Seq.{take_all, take-nil, get_or-append-add}
 use lib.Pow.{pow_mono}
-use Rattle.gf2.specs.Word.{Word, ◌⊻◌, ◌⊕◌, zeros, flip, digits, number}
+use Rattle.gf2.specs.Word.{Word, ◌⊻◌, ◌⊕◌, flip, digits, number}
 use Rattle.gf2.specs.Check.{bit}
 use Rattle.gf2.proofs.Xor.{xor-append, xor-zeros, take-xor, drop-xor}
 use Rattle.gf2.proofs.Digits.{number_small, number_lt, digits_number, digits-zero, digits-xor, get_or-digits}

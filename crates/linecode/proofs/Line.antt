@@ -1,21 +1,19 @@
 -- A line's 70 bytes and its 553 places: what stands in which byte, and that one is made from the other.
-use mathlib.Core.Path.{◌≡◌, refl, sym, ap, ap₂, ◌∙◌, subst}
+use mathlib.Core.Path.{◌≡◌, refl, sym, ap, ap₂, ◌∙◌}
 use mathlib.Core.Bool.{Bool, true, false}
-use mathlib.Core.List.{List, [], ◌∷◌, ◌++◌, append-nil, append_assoc}
+use mathlib.Core.List.{List, [], ◌∷◌, ◌++◌, append_assoc}
 use Prim.Native.Nat.{ℕ, zero, suc, ◌+◌, ◌-◌, ◌*◌, ◌/◌, ◌%◌, ◌^◌, ◌≤◌, ◌<◌, min}
-use native.Mathlib.Nat.{mod-eq_of_lt}
 use native.Mathlib.Omega.{arith}
 use lib.Bits.{bit_xor}
 use lib.ListN.{length, take, drop, get_or, set, length-append, length-take, length-drop, take-append-drop, drop_of_length-le, length-replicate}
-use lib.Seq.{take_all, take_at, drop_at, drop-cons, take-append-add, drop-append-add, take-append-le, take-take, length-take-le, append_snoc, get_or-take, get_or-drop, get_or-append-add}
+use lib.Seq.{take_at, drop_at, drop-cons, take-append-add, drop-append-add, take-append-le, take-take, length-take-le, append_snoc, get_or-take, get_or-drop, get_or-append-add}
 use Rattle.gf2.specs.Word.{Word, ◌⊕◌, zeros, flip, digits, number}
 use Rattle.gf2.specs.Check.{bit}
 use Rattle.gf2.proofs.Xor.{xor-append, take-xor, drop-xor}
-use Rattle.gf2.proofs.Digits.{length_digits, number_digits, number_small, digits_number, digits-add, number_lt}
-use Rattle.gf2.proofs.Weight.{take-flip, drop-flip, drop-flip-add, flip-append, flip-append-add, flip-past, length-flip}
+use Rattle.gf2.proofs.Weight.{take-flip, drop-flip, drop-flip-add, flip-append, flip-append-add, flip-past}
 use Rattle.linecode.specs.Places.{data_places, protected_places, hamming_places, line_places, line_bytes, bits_of, bytes_of, places, line_of, xor_bytes}
-use Rattle.linecode.specs.Code.{protected, data_of, stored_crc, stored_hamming}
-use Rattle.linecode.proofs.Bytes.{Bytes, bytes_take, byte_at, length-bits_of, bits_of-append, take-bits_of, bytes_of-append, bits_of-bytes_of, bytes-bytes_of, length-bytes_of, bits_of-xor, xor_bytes-bytes_of, length-xor_bytes, flip-bits_of, get_or-bits_of}
+use Rattle.linecode.specs.Code.{protected, data_of, stored_hamming}
+use Rattle.linecode.proofs.Bytes.{Bytes, length-bits_of, bits_of-append, take-bits_of, bytes_of-append, bits_of-bytes_of, bytes-bytes_of, length-bytes_of, bits_of-xor, xor_bytes-bytes_of, flip-bits_of, get_or-bits_of}
 
 -- ---- the named numbers
 pub protected-is : protected_places ≡ 543

@@ -1,13 +1,13 @@
 -- Copying the first bytes of a slice over zeros.
 use mathlib.Core.Path.{◌≡◌, refl, sym, ap, ap₂, ◌∙◌}
-use mathlib.Core.List.{List, [], ◌∷◌, ◌++◌, append-nil}
+use mathlib.Core.List.{List, ◌∷◌, ◌++◌, append-nil}
 use Prim.Native.Nat.{ℕ, zero, suc, ◌+◌, ◌-◌, ◌≤◌, ◌<◌, min}
 use native.Mathlib.Nat.{zero-add, suc-sub-suc, sub-zero}
 use native.Mathlib.Numerals.{add-one}
 use native.Mathlib.Omega.{arith}
 use native.Mathlib.Decide.{dec_le}
 use lib.ListN.{length, take, drop, get_or, set, replicate, length-append, length-take, length-replicate, drop_of_length-le}
-use lib.Seq.{take_all, take-append-le, take-append-add, take-take, take_at, paste, paste-zero, paste-suc}
+use lib.Seq.{take_all, take-append-le, take-append-add, take-take, take_at, paste, paste-suc}
 use Rattle.gf2.specs.Word.{Word}
 use Rattle.linecode.specs.Places.{line_bytes, loaded, bits_of, places, line_of}
 use Rattle.linecode.specs.Code.{data_of, codeword}

@@ -1,20 +1,18 @@
 -- What stores into a line's last bytes leave: spare bits cleared, Hamming bits afresh, the CRC afresh.
-use mathlib.Core.Path.{◌≡◌, refl, sym, ap, ap₂, ◌∙◌, subst}
-use mathlib.Core.Bool.{Bool, true, false}
-use mathlib.Core.List.{List, [], ◌∷◌, ◌++◌, map, append-nil, append_assoc}
-use Prim.Native.Nat.{ℕ, zero, suc, ◌+◌, ◌*◌, ◌/◌, ◌%◌, ◌^◌, ◌≤◌, ◌<◌}
-use native.Mathlib.Nat.{mod-eq_of_lt, div-div-eq-div-mul}
+use mathlib.Core.Path.{◌≡◌, refl, sym, ap, ap₂, ◌∙◌}
+use mathlib.Core.List.{List, [], ◌∷◌, ◌++◌, append-nil, append_assoc}
+use Prim.Native.Nat.{ℕ, ◌+◌, ◌*◌, ◌/◌, ◌%◌, ◌<◌}
+use native.Mathlib.Nat.{div-div-eq-div-mul}
 use native.Mathlib.Omega.{arith}
-use lib.ListN.{length, take, drop, get_or, set, length-append, length-take, length-drop, take-append-drop, drop_of_length-le, length-set}
-use lib.Seq.{take_at, drop_at, take-take, take-append-le, sets, sets-eq, set-get_or, length-take-le, get_or-set_other, get_or-take}
+use lib.ListN.{length, take, drop, get_or, set, length-append, drop_of_length-le}
+use lib.Seq.{drop_at, sets, sets-eq, set-get_or, length-take-le, get_or-set_other, get_or-take}
 use Rattle.gf2.specs.Word.{Word, digits, number}
-use Rattle.gf2.specs.Check.{crc, column_sum}
-use Rattle.gf2.specs.Generator.{generator}
-use Rattle.gf2.proofs.Digits.{length_digits, number_digits, number_small, digits_number, digits-add, digits_mod, number_append}
-use Rattle.linecode.specs.Places.{data_places, protected_places, line_places, line_bytes, bits_of, bytes_of, places, line_of}
-use Rattle.linecode.specs.Code.{protected, data_of, stored_crc, stored_hamming, positions, with_crc, with_hamming}
-use Rattle.linecode.proofs.Bytes.{Bytes, bytes_take, bytes-append, byte_at, length-bits_of, bits_of-append, take-bits_of}
-use Rattle.linecode.proofs.Line.{protected-is, data_is, sixty_four, data_of-line, split-three, line_of-bits, crc_end, hamming_end, length-crc_end, length_front, places-line, protected-line, stored_hamming-line}
+use Rattle.gf2.specs.Check.{column_sum}
+use Rattle.gf2.proofs.Digits.{number_digits, number_small, digits-add, digits_mod, number_append}
+use Rattle.linecode.specs.Places.{data_places, bits_of, bytes_of, places, line_of}
+use Rattle.linecode.specs.Code.{protected, data_of, stored_crc, stored_hamming, positions, with_hamming}
+use Rattle.linecode.proofs.Bytes.{Bytes, bytes_take, bytes-append, byte_at, length-bits_of, bits_of-append}
+use Rattle.linecode.proofs.Line.{data_is, sixty_four, data_of-line, split-three, line_of-bits, crc_end, hamming_end, length-crc_end, length_front, places-line, protected-line, stored_hamming-line}
 use Rattle.linecode.proofs.Positions.{position-sum-lt, with_hamming-digits}
 
 -- three bytes stored from byte 67 on

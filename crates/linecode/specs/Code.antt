@@ -1,5 +1,5 @@
 -- Document 01, "One line, 70 bytes": the CRC, the positions, the Hamming bits, the syndrome and its answer, a correct line.
-use Rattle.std.specs.Prelude.{◌≡◌, Bool, true, false, not, ◌||◌, cond, List, [], ◌∷◌, ◌++◌, map, ℕ, zero, suc, ◌+◌, ◌-◌, ◌^◌, ◌<◌, eqb, ltb, length, take, drop, get_or}
+use Rattle.std.specs.Prelude.{◌≡◌, Bool, false, ◌||◌, cond, List, [], ◌∷◌, ◌++◌, map, ℕ, zero, suc, ◌+◌, ◌-◌, ◌^◌, ◌<◌, eqb, ltb, length, take, drop, get_or}
 use Rattle.gf2.specs.Word.{Word, same}
 use Rattle.gf2.specs.Check.{divisible, crc, hamming_bit, column_sum}
 use Rattle.gf2.specs.Generator.{generator}

@@ -2,7 +2,7 @@
 use Rattle.std.specs.Prelude.{List, ℕ}
 use Rattle.linecode.specs.Places.{bits_of, places, line_of}
 use Rattle.linecode.specs.Code.{codeword}
-use Rattle.linecode.specs.Reading.{read_alone, Read}
+use Rattle.linecode.specs.Reading.{read_alone}
 use Rattle.linecode.specs.declared.alone.Reading.{Reading}
 
 -- writing 64 data bytes

@@ -1,5 +1,5 @@
 -- Document 01, "One line, 70 bytes": bytes and the 553 places of a line.
-use Rattle.std.specs.Prelude.{false, List, [], ◌∷◌, ◌++◌, ℕ, zero, suc, ◌+◌, take, drop, replicate}
+use Rattle.std.specs.Prelude.{false, List, [], ◌∷◌, ◌++◌, ℕ, zero, suc, take, drop, replicate}
 use Rattle.std.specs.Int.Bits.{bit_xor}
 use Rattle.gf2.specs.Word.{Word, digits, number}
 

@@ -206,7 +206,7 @@ fn refusal(
     line: &[u8],
 ) -> u32
     ensures { result
-        ≡ one_refusal rows columns lines.entry.now row_table.now column_table.now n
+        ≡ one_refusal rows columns lines.now row_table.now column_table.now n
         (record {
           lines = out.now;
           marks = marks.now;
@@ -268,7 +268,7 @@ fn read_fitting(
             column_table = column_out.new;
           };
         })
-        (read_one rows columns lines.entry.now row_table.now column_table.now n
+        (read_one rows columns lines.now row_table.now column_table.now n
         (record {
           lines = out.old;
           marks = marks.old;
@@ -333,7 +333,7 @@ pub fn read_one(
             column_table = column_out.new;
           };
         })
-        (read_one rows columns lines.entry.now row_table.now column_table.now n
+        (read_one rows columns lines.now row_table.now column_table.now n
         (record {
           lines = out.old;
           marks = marks.old;

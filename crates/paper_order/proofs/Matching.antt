@@ -1,9 +1,6 @@
 -- The comparison of the CRCs, and the corrector.
 use mathlib.Core.Path.{◌≡◌, refl, sym, ap, ap₂, ◌∙◌, subst}
 use mathlib.Core.Bool.{Bool, true, false, true≢false, cond}
-use mathlib.Core.List.{[], ◌∷◌}
-use types.Run.{OneOf, miss}
-use denote.Enum.Declared.{tag_of}
 use Prim.Native.Nat.{ℕ, ◌≤◌}
 use native.Mathlib.Omega.{arith}
 use lib.Dec.{T, eqb}
@@ -19,7 +16,6 @@ use Rattle.linecode.specs.Code.{protected, data_of, stored_crc, accepted, with_h
 use Rattle.linecode.specs.Reading.{mark_of}
 use Rattle.linecode.specs.declared.hamming.Answer.{Answer}
 use Rattle.linecode.specs.declared.hamming.Answer.TheVariants.{None, Hamming, Protected}
-use Rattle.linecode.specs.contracts.hamming.Answer.{the_type}
 use Rattle.linecode.proofs.Line.{protected-is, places_is}
 use Rattle.linecode.proofs.Codeword.{length-stored_crc, protected-flip, protected-rewritten, accepted-crc}
 use Rattle.paper_order.specs.PaperOrder.{crc_matches, corrector}
@@ -60,11 +56,11 @@ corrector-named w a e = ap (λ (x : Answer). flip (place_of x) w) e
 
 -- where none is, neither the enum's tag 1 nor its tag 2, nothing is
 pub corrector-none : (w : Word) → length w ≡ line_places → (a : Answer) → answer_to (syndrome w) ≡ a
-    → OneOf (0 ∷ 1 ∷ []) (tag_of the_type a) → OneOf (0 ∷ 2 ∷ []) (tag_of the_type a) → corrector w ≡ w
+    → ((i : ℕ) → a ≡ Protected i → ⊥) → ((k : ℕ) → a ≡ Hamming k → ⊥) → corrector w ≡ w
 unfolding place_of
 corrector-none w whole None e h k = corrector-named w None e ∙ flip-past line_places w (omega arith)
-corrector-none w whole (Hamming i) e h k = absurd (miss (0 ∷ 2 ∷ []) 1 tt k)
-corrector-none w whole (Protected i) e h k = absurd (miss (0 ∷ 1 ∷ []) 2 tt h)
+corrector-none w whole (Hamming i) e h k = absurd (k i refl)
+corrector-none w whole (Protected i) e h k = absurd (h i refl)
 
 -- none and a Hamming bit lie past the protected places
 pub none-past : protected_places ≤ place_of None
@@ -75,11 +71,11 @@ pub hamming-past : (k : ℕ) → protected_places ≤ place_of (Hamming k)
 unfolding place_of
 hamming-past k = omega arith
 
--- the enum's tags 0 and 1
-pub unnamed-past : (a : Answer) → OneOf (0 ∷ 1 ∷ []) (tag_of the_type a) → protected_places ≤ place_of a
+-- an answer that names no protected place
+pub unnamed-past : (a : Answer) → ((i : ℕ) → a ≡ Protected i → ⊥) → protected_places ≤ place_of a
 unnamed-past None k = none-past
 unnamed-past (Hamming i) k = hamming-past i
-unnamed-past (Protected i) k = absurd (miss (0 ∷ 1 ∷ []) 2 tt k)
+unnamed-past (Protected i) k = absurd (k i refl)
 
 -- the second comparison then ends as the first did
 pub matches-past : (w : Word) → length w ≡ line_places → (a : Answer) → answer_to (syndrome w) ≡ a → protected_places ≤ place_of a

@@ -12,8 +12,8 @@ use Rattle.forecast.proofs.Answers.{refused, runs, sizes}
 use Rattle.peeling.specs.Lent.{Sides, RanPasses, mark_of}
 
 module _ (rows columns : ℕ) (pattern marks : List ℕ) (a : ℕ) (a-is : a ≡ forecast_refusal rows columns pattern marks) where
-  pub turned-back : (a ≡ 0 → ⊥) → ◌≡◌ {A = Forecast} (record { answer = a; passes = 0; marks = marks }) (forecast rows columns pattern marks)
-  turned-back d =
+  pub turned_back : (a ≡ 0 → ⊥) → ◌≡◌ {A = Forecast} (record { answer = a; passes = 0; marks = marks }) (forecast rows columns pattern marks)
+  turned_back d =
       sym (refused rows columns pattern marks (λ e. d (a-is ∙ e)) ∙ ap (λ x. record { answer = x; passes = 0; marks = marks }) (sym a-is))
 
   module _ (none : a ≡ 0) where

@@ -73,8 +73,8 @@ module _ (rows columns : ℕ) (marks₀ marks faulty : List ℕ) (passes before 
     left-count t e = left_is ∙ together rows columns marks' faulty' counted (pass never (bare_groups rows columns) t) (made t e)
 
     -- the pass rebuilt nothing
-    pub running-idle : left ≡ before → RanPasses rows columns marks₀ marks' (passes + 1)
-    running-idle f =
+    pub running_idle : left ≡ before → RanPasses rows columns marks₀ marks' (passes + 1)
+    running_idle f =
         record {
           cells = λ s e.
               let p = r.store s e in

@@ -81,3 +81,15 @@ module _ (rows columns : ℕ) (marks faulty : List ℕ) (counted : Counted rows 
       (sym
       (only-settles g s
       ∙ not-one g s (λ f. d (counted.each k inside ∙ ap length (sym (by-marks marks s h g.members ∙ ap (select (marked_faulty marks)) e)) ∙ f))))
+
+-- a visit of a group as the code makes it: its number is read, and where it is 1 the chosen line is rebuilt
+module _ (rows columns : ℕ) (marks faulty : List ℕ) (counted : Counted rows columns marks faulty) (which : Which)
+    (within : Within rows columns which) where
+  pub picked_visited : get_or faulty (number_of rows which) 0 ≡ 1
+      → Visits (members_of rows columns (number_of rows which)) marks
+      (set marks (get_or (faulty_among marks (members_of rows columns (number_of rows which))) 0 0) 3)
+  picked_visited one =
+      one-visited rows columns marks faulty counted (number_of rows which) (listed rows columns which within) one _ refl
+
+  pub passed_over : (get_or faulty (number_of rows which) 0 ≡ 1 → ⊥) → Visits (members_of rows columns (number_of rows which)) marks marks
+  passed_over d = none-visited rows columns marks faulty counted (number_of rows which) (listed rows columns which within) d

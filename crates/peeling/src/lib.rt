@@ -36,6 +36,7 @@ fn refusal(rows: usize, columns: usize, pattern: &[u8], marks: &[u8]) -> u32
 }
 
 // From one byte for each line, 0 whole and anything else faulty: the marks, 0 whole, 3 rebuilt and 4 faulty, and the passes.
+#[tactic(auto, using(crate::proofs::Foreseeing::turned_back))]
 pub fn forecast(rows: usize, columns: usize, pattern: &[u8], marks: &mut [u8]) -> Foreseen
     ensures { ◌≡◌ {A = Forecast}
         (record { answer = result.answer; passes = result.passes; marks = marks.new })

@@ -9,6 +9,7 @@ use groups::tracked::Which;
 
 // A visit: if exactly one line of the group is faulty, it is rebuilt. A group comes to this once at most, so that all searches for such
 // a line together look at each line at most twice.
+#[tactic(auto, using(crate::proofs::Visiting::picked_visited, crate::proofs::Visiting::passed_over))]
 fn visit_group(marks: &mut [u8], faulty: &mut [u16], rows: usize, columns: usize, which: Which)
     requires { Counted rows columns marks.old faulty.old × Within rows columns which }
     ensures { Visits (members_of rows columns (number_of rows which)) marks.old marks.new

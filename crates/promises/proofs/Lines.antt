@@ -1,5 +1,5 @@
 -- Correct lines: they are accepted, add up to correct lines, and differ in at least eight places.
-use mathlib.Core.Path.{◌≡◌, sym, ap, ap₂, ◌∙◌, subst}
+use mathlib.Core.Path.{◌≡◌, refl, sym, ap, ap₂, ◌∙◌, subst}
 use mathlib.Core.Bool.{true, false}
 use mathlib.Core.List.{◌++◌}
 use Prim.Native.Nat.{ℕ, ◌+◌, ◌≤◌}
@@ -17,12 +17,14 @@ use Rattle.gf2.proofs.Xor.{xor-append, xor_self as word-self, take-xor}
 use Rattle.gf2.proofs.Digits.{digits-xor, number_small}
 use Rattle.gf2.proofs.Linear.{remainder-xor}
 use Rattle.gf2.proofs.Hamming.{column_sum-xor}
+use Rattle.gf2.proofs.Linearity.{line_code-linear}
 use Rattle.gf2.proofs.Same.{same_refl}
 use Rattle.gf2.proofs.Crc.{length-crc}
 use Rattle.gf2.proofs.Weight.{distance-take}
 use Rattle.gf2.proofs.Distance.{divisible-equal}
-use Rattle.linecode.specs.Places.{data_places, protected_places, line_places}
-use Rattle.linecode.specs.Code.{protected, data_of, stored_crc, stored_hamming, accepted, positions, hamming, with_crc, with_hamming, codeword, Correct, syndrome}
+use Rattle.linecode.specs.Places.{data_places, protected_places, hamming_places, line_places}
+use Rattle.linecode.specs.Code.{up_from, protected, data_of, stored_crc, stored_hamming, accepted, positions, hamming, with_crc, with_hamming, codeword, Correct, syndrome}
+use Rattle.promises.specs.Promises.{LinearAtItsPlaces}
 use Rattle.linecode.proofs.Line.{protected-is, data_is, places_is}
 use Rattle.linecode.proofs.Positions.{hamming-digits, position-sum-lt}
 use Rattle.linecode.proofs.Syndrome.{syndrome-parts}
@@ -134,6 +136,15 @@ codeword-xor x y e f =
     sums =
         ap (λ (z : Word). (x ⊕ y) ++ z) (crc-xor x y (e ∙ sym f))
         ∙ sym (xor-append x y (crc generator x) (crc generator y) (e ∙ sym f))
+
+-- that of any width, at its places
+pub linear_at_its_places : LinearAtItsPlaces
+unfolding codeword with_hamming with_crc hamming
+linear_at_its_places =
+    record {
+      general = λ d. refl;
+      codewords = λ x y e. line_code-linear generator positions (up_from 0 hamming_places) x y e;
+    }
 
 pub correct-xor : (w v : Word) → Correct w → Correct v → Correct (w ⊕ v)
 unfolding Correct data_of

@@ -3,7 +3,7 @@ use mathlib.Core.Path.{◌≡◌, refl, sym, ap, ◌∙◌, subst}
 use mathlib.Core.Bool.{Bool, true, false, true≢false, cond}
 use mathlib.Core.Logic.{◌⊎◌, inl, inr, ◌↔◌}
 use mathlib.Core.List.{List, ◌++◌}
-use Prim.Native.Nat.{ℕ, suc, ◌+◌, ◌*◌, ◌≤◌, ◌<◌}
+use Prim.Native.Nat.{ℕ, suc, ◌*◌, ◌≤◌, ◌<◌}
 use native.Mathlib.Nat.{le_of_suc-le-suc}
 use native.Mathlib.Decide.{dec_lt}
 use native.Mathlib.Omega.{arith}
@@ -259,6 +259,21 @@ before found = first (accepted found)
     first true = (refl, inr (omega arith, marked found _))
     first false = answered (answer_to (syndrome found))
 
+before_mark : (found : Word) → (accepted found ≡ true → (read_before found).mark ≡ 0)
+    × (accepted found ≡ false → ((read_before found).mark ≡ 1) ⊎ ((read_before found).mark ≡ 4))
+unfolding read_before
+before_mark found = ((λ e. rw e), λ e. rw e (answered (answer_to (syndrome found))))
+  where
+    second : (i : ℕ) (b : Bool)
+        → let r = cond b (accepted_before 1 (flip i found)) (faulty found) in (r.mark ≡ 1) ⊎ (r.mark ≡ 4)
+    second i true = inl refl
+    second i false = inr refl
+
+    answered : (a : Answer) → ((corrected_before a found).mark ≡ 1) ⊎ ((corrected_before a found).mark ≡ 4)
+    answered None = inr refl
+    answered (Hamming k) = inr refl
+    answered (Protected i) = second i (accepted (flip i found))
+
 -- ---- writing and reading in bytes
 writes : (payload : List ℕ) → length payload ≡ 64
     → Correct (places (written payload)) × (reading (written payload) ≡ record { line = written payload; mark = 0 })
@@ -319,6 +334,7 @@ promises =
       rewritten = rewritten;
       hamming_hurt = hamming_hurt;
       before = before;
+      before_mark = before_mark;
       tests = tests;
       writes = writes;
       spare = spare;

@@ -1,10 +1,11 @@
 -- What the line code promises to the layers above; they rely on these statements and on nothing else of it.
 use Rattle.std.specs.Prelude.{◌≡◌, ◌⊎◌, ◌↔◌, true, false, List, [], ◌++◌, ℕ, ◌+◌, ◌/◌, ◌%◌, ◌^◌, ◌≤◌, ◌<◌, T, length, take, get_or, replicate}
 use Rattle.gf2.specs.Word.{Word, ◌⊕◌, zeros, distance}
-use Rattle.gf2.specs.Check.{bit, divisible, crc}
+use Rattle.gf2.specs.Check.{bit, divisible, crc, line_code}
 use Rattle.gf2.specs.Generator.{generator}
-use Rattle.linecode.specs.Places.{line_places, line_bytes, bits_of, loaded, places, line_of, xor_bytes}
-use Rattle.linecode.specs.Code.{protected, data_of, codeword, Correct, is_correct, columns, answer_to, syndrome_of, place_of}
+use Rattle.linecode.specs.Places.{hamming_places, line_places, line_bytes, bits_of, loaded, places, line_of, xor_bytes}
+use Rattle.linecode.specs.Code.{up_from, protected, data_of, accepted, positions, codeword, Correct, is_correct, columns}
+use Rattle.linecode.specs.Code.{answer_to, syndrome_of, place_of}
 use Rattle.linecode.specs.Reading.{Read, read_alone}
 use Rattle.linecode.specs.Before.{read_before}
 use Rattle.linecode.specs.Entry.{written, reading}
@@ -37,6 +38,13 @@ pub record Layout : Type 0 where
   -- a line loaded from 64 bytes has them as its data, and a line written has the places that the code gives
   pub loads : (payload : List ℕ) → length payload ≡ 64 → data_of (places (loaded payload)) ≡ bits_of payload
   pub writes : (payload : List ℕ) → length payload ≡ 64 → places (written payload) ≡ codeword (bits_of payload)
+
+-- "That line code and parity are linear is shown for any width, then used at 553 places."
+pub record LinearAtItsPlaces : Type 0 where
+  -- writing is the line code of any width, with document 01's generator, positions and ten Hamming bits
+  pub general : (d : Word) → codeword d ≡ line_code generator positions (up_from 0 hamming_places) d
+  -- and so the line of the exclusive or of data is that of their lines
+  pub codewords : (x y : Word) → length x ≡ length y → codeword (x ⊕ y) ≡ codeword x ⊕ codeword y
 
 -- a line read alone is accepted, and read as w
 pub record ReadsAs (w : Word) (r : Read) : Type 0 where
@@ -74,6 +82,9 @@ pub record Promises : Type 0 where
   -- before request Q-1 a line was read alike; its mark is the same, or was and is one of an accepted line
   pub before : (found : Word) → ((read_before found).word ≡ (read_alone found).word)
       × (((read_before found).mark ≡ (read_alone found).mark) ⊎ (((read_before found).mark ≤ 1) × ((read_alone found).mark ≤ 1)))
+  -- its mark told of the protected word alone: 0 where that was divisible as found, otherwise 1, after a flip, or 4
+  pub before_mark : (found : Word) → (accepted found ≡ true → (read_before found).mark ≡ 0)
+      × (accepted found ≡ false → ((read_before found).mark ≡ 1) ⊎ ((read_before found).mark ≡ 4))
   -- the test passes the correct lines, and no other
   pub tests : (w : Word) → (is_correct w ≡ true) ↔ Correct w
   -- a line written is correct, and reads as itself with mark 0

@@ -1,5 +1,5 @@
 -- Membership in numbers counted upward and in two lists one after the other, and images of numbers counted upward.
-use mathlib.Core.Path.{◌≡◌, refl, sym, ap, ap₂, ◌∙◌}
+use mathlib.Core.Path.{◌≡◌, refl, sym, ap, ap₂, ◌∙◌, subst}
 use mathlib.Core.Logic.{◌⊎◌, inl, inr}
 use mathlib.Core.List.{List, [], ◌∷◌, ◌++◌, map}
 use Prim.Native.Nat.{ℕ, zero, suc, ◌+◌, ◌≤◌, ◌<◌}
@@ -14,7 +14,7 @@ use Rattle.scheme.specs.Demand3.{◌∈◌}
 pub in-up_from : (n k i : ℕ) → i < k → (n + i) ∈ up_from n k
 in-up_from n zero i h = absurd (not-suc-le-zero h)
 in-up_from n (suc k) zero h = inl (omega arith)
-in-up_from n (suc k) (suc i) h = inr (rw (add-suc n i ∙ sym (suc-add n i)) (in-up_from (suc n) k i (le_of_suc-le-suc h)))
+in-up_from n (suc k) (suc i) h = inr (subst (λ (m : ℕ). m ∈ up_from (suc n) k) (suc-add n i ∙ sym (add-suc n i)) (in-up_from (suc n) k i (le_of_suc-le-suc h)))
 
 pub up_from-bounds : (n k m : ℕ) → m ∈ up_from n k → (n ≤ m) × (m < n + k)
 up_from-bounds n zero m i = absurd i

@@ -1,5 +1,5 @@
 -- Numbers at equal steps: which they are, that they rise, and one more at the end.
-use mathlib.Core.Path.{◌≡◌, refl, sym, ap, ◌∙◌}
+use mathlib.Core.Path.{◌≡◌, refl, sym, ap, subst, ◌∙◌}
 use mathlib.Core.Logic.{inl, inr}
 use mathlib.Core.List.{List, [], ◌∷◌, ◌++◌}
 use Prim.Native.Nat.{ℕ, zero, suc, ◌+◌, ◌*◌, ◌<◌}
@@ -20,8 +20,8 @@ pub in-stride : (first step count i : ℕ) → i < count → (first + i * step) 
 in-stride first step zero i h = absurd (not-suc-le-zero h)
 in-stride first step (suc count) zero h = inl (omega arith)
 in-stride first step (suc count) (suc i) h =
-    let e : first + suc i * step ≡ first + step + i * step = omega arith in
-    inr (rw e (in-stride (first + step) step count i (le_of_suc-le-suc h)))
+    let e : first + step + i * step ≡ first + suc i * step = omega arith in
+    inr (subst (λ (m : ℕ). m ∈ stride (first + step) step count) e (in-stride (first + step) step count i (le_of_suc-le-suc h)))
 
 -- a member and its index
 pub stride-index : (first step count m : ℕ) → m ∈ stride first step count → (i : ℕ) × (i < count) × (m ≡ first + i * step)

@@ -12,7 +12,8 @@ use Rattle.linecode.specs.Places.{line_bytes}
 use Rattle.linecode.specs.Code.{up_from}
 use lib.ListN.{length}
 use Rattle.scheme.specs.Demand3.{◌∈◌}
-use Rattle.rectangle.specs.Refusals.{unless, every, sides_fit, holds, tables_fit, parity_refusal, accepted_at, tables_refusal}
+use Rattle.rectangle.specs.Refusals.{unless, every, sides_fit, holds, tables_fit, parity_refusal, ThirteenThenFourteen}
+use Rattle.rectangle.specs.Refusals.{accepted_at, tables_refusal}
 use Rattle.rectangle.proofs.Members.{in-up_from, up_from-bounds}
 use Rattle.rectangle.proofs.Buffer.{holds-length, length-holds}
 
@@ -125,6 +126,9 @@ either_way P true x y p q = p
 either_way P false x y p q = q
 
 -- ---- 13, then 14, then the next test
+pub thirteen_then_fourteen : ThirteenThenFourteen
+thirteen_then_fourteen = record { row = λ of_column next. refl; column = λ next. refl; neither = λ next. refl }
+
 module _ (of_rows of_columns : Bool) (next : ℕ) where
   abbrev parity_tests : List (Bool × ℕ)
   parity_tests = (of_rows, 13) ∷ (of_columns, 14) ∷ []

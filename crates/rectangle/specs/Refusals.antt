@@ -1,5 +1,5 @@
 -- Document 01, "Turned back, in checking order": for each entry point the first refusal of the list that fits, or 0.
-use Rattle.std.specs.Prelude.{Bool, true, not, cond, ◌&&◌, List, [], ◌∷◌, ◌++◌, ℕ, ◌*◌, ◌/◌, ◌%◌, eqb, leb, ltb, length}
+use Rattle.std.specs.Prelude.{◌≡◌, Bool, true, false, not, cond, ◌&&◌, List, [], ◌∷◌, ◌++◌, ℕ, ◌*◌, ◌/◌, ◌%◌, eqb, leb, ltb, length}
 use Rattle.linecode.specs.Places.{data_bytes, line_bytes}
 use Rattle.linecode.specs.Code.{up_from}
 use Rattle.scheme.specs.Layer.{parity_address}
@@ -37,6 +37,12 @@ parity_correct g = is_correct_under (parity_address line_layer g.members) g.pari
 -- 13, then 14: a row's parity line is correct, then a column's; then the next test
 abbrev pub parity_refusal : Bool → Bool → ℕ → ℕ
 parity_refusal of_row of_column next = unless of_row 13 (unless of_column 14 next)
+
+-- 13 and 14 "stand in 9's place": the answer by which of the two parity lines is bad
+pub record ThirteenThenFourteen : Type 0 where
+  pub row : (of_column : Bool) (next : ℕ) → parity_refusal false of_column next ≡ 13
+  pub column : (next : ℕ) → parity_refusal true false next ≡ 14
+  pub neither : (next : ℕ) → parity_refusal true true next ≡ next
 
 -- 10: a line is not faulty where it is read alone
 unfoldable pub accepted_at : List ℕ → ℕ → Bool

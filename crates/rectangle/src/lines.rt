@@ -10,10 +10,10 @@ ghost use Rattle.rectangle.specs.Change.{add_to};
 use linecode::place;
 
 // The number of a row, and of a column: they are counted apart, so that neither table is reached with the other's number.
-#[derive(Drop)]
+#[derive(Clone, Copy)]
 pub struct RowIndex(pub usize);
 
-#[derive(Drop)]
+#[derive(Clone, Copy)]
 pub struct ColumnIndex(pub usize);
 
 // The row of line n: only here and in `column_of` does a line's number become a row's or a column's.

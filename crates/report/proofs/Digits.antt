@@ -10,7 +10,7 @@ use lib.Dec.{ltb}
 use lib.ListN.{length, get_or, length-append, get_or-append}
 use lib.Seq.{get_or_at}
 use Rattle.report.specs.Report.{digit, decimal}
-use Rattle.report.specs.Promises.{read_decimal, Decimal, DecimalWithoutZeros}
+use Rattle.report.specs.Promises.{read_decimal, DecimalWithoutZeros}
 use Rattle.report.proofs.Decimal.{decimal-small, decimal-more}
 
 read-snoc : (m : ℕ) (x : List ℕ) (d : ℕ) → read_decimal m (x ++ (d ∷ [])) ≡ 10 * read_decimal m x + (d - 48)

@@ -25,15 +25,6 @@ module _ (old : List ℕ) (at n : ℕ) (room : at + length (decimal n) ≤ lengt
       let e = ap length (decimal-more n h) in
       omega (arith, length-append (decimal (n / 10)) (digit (n % 10) ∷ []))
 
-  pub put_small : n < 10 → Put old at (decimal n) (set old at (48 + n)) (at + 1)
-  put_small h =
-      let e = decimal-small n h in
-      let one = ap length e in
-      record {
-        after = omega arith;
-        put = placed_one old at (48 + n) (room_small h) ∙ ap (placed old at) (sym e);
-      }
-
   pub put-more : 10 ≤ n → (mid : List ℕ) (k : ℕ) → length mid ≡ length old → Put old at (decimal (n / 10)) mid k
       → Put old at (decimal n) (set mid k (48 + n % 10)) (k + 1)
   put-more h mid k same p =
@@ -42,6 +33,9 @@ module _ (old : List ℕ) (at n : ℕ) (room : at + length (decimal n) ≤ lengt
       (put_then old at (decimal (n / 10)) mid k (digit (n % 10) ∷ []) (set mid k (48 + n % 10)) (k + 1)
       (omega (arith, p.after)) p
       (record { after = refl; put = placed_one mid k (48 + n % 10) (omega (arith, p.after)) }))
+
+-- the last digit, put at its place
+pub ruleset last_digit = (decimal-small, placed_one)
 
 pub few-digits : (n : ℕ) → n < 2 ^ 64 → length (decimal n) ≤ 20
 few-digits n h = length-decimal 19 n (omega arith)
@@ -69,3 +63,9 @@ module _ (c : Checked) where
         (ap₂ (λ (k : ℕ) (l : List ℕ). record { answer = 0; size = k; out = l })
         (p.after ∙ zero-add (length text) ∙ ap length is)
         (p.put ∙ placed-start out text ∙ ap (λ (l : List ℕ). l ++ drop (length l) out) is))
+
+    -- the last line alone
+    pub last_alone : length out ≡ 256 → hands_over c.answer ≡ false → (new : List ℕ) (size : ℕ)
+        → size ≡ 0 + length (line (ascii "answer") c.answer) → new ≡ placed out 0 (line (ascii "answer") c.answer)
+        → record { answer = 0; size = size; out = new } ≡ write_report c out
+    last_alone e h new size after put = report-given e _ new size (text-last h) (record { after = after; put = put })

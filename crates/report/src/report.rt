@@ -8,7 +8,7 @@ use results::marks::Counts;
 use storefile::bytes;
 
 // What a check of a store answers, its rows and columns, the counts of its marks, and the passes.
-#[derive(Drop)]
+#[derive(Clone, Copy)]
 pub struct Checked {
     pub answer: u32,
     pub rows: usize,
@@ -18,13 +18,14 @@ pub struct Checked {
 }
 
 // What writing the report answers: 0 and its length, or 7 and 0.
-#[derive(Drop)]
+#[derive(Clone, Copy)]
 pub struct Reported {
     pub answer: u32,
     pub size: usize,
 }
 
 // A number in decimal, put from a place on: the higher digits first, then the last.
+#[tactic(auto, using(crate::proofs::Writing::last_digit))]
 pub fn put_decimal(out: &mut [u8], at: usize, n: usize) -> usize
     requires { at + length (decimal n) ≤ length out.old }
     ensures { Put out.old at (decimal n) out.new result }
@@ -97,6 +98,7 @@ fn put_above(out: &mut [u8], c: Checked) -> usize
 }
 
 // The report, put from the buffer's start on: where nothing is handed over (any answer but 0, 11 and 12) only its last line.
+#[tactic(auto, using(crate::proofs::Writing::last_alone))]
 pub fn report(c: Checked, out: &mut [u8]) -> Reported
     ensures { record { answer = result.answer; size = result.size; out = out.new } ≡ write_report c out.old }
 {

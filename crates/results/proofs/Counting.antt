@@ -65,9 +65,9 @@ module _ (marks : List ℕ) (mark found i : ℕ) (p : Counting marks mark found 
       let most : count_of mark (here ∷ []) ≤ 1 = count-few mark (here ∷ []) in
       record { few = omega (arith, h); small = omega (arith, p.small, most, e, g); counted = omega (arith, p.counted, split, e, g) }
 
-  -- it fits a byte in a piece of at most 192 marks
-  pub piece-fits : i < length marks → (one : ℕ) → one ≡ count_of mark (get_or marks i 0 ∷ []) → length marks ≤ 192 → found + one < 256
-  piece-fits h one e short = let most = count-few mark (get_or marks i 0 ∷ []) in omega (arith, h, e, most, p.small, short)
+  -- with one more counted, of whatever mark, it fits where the piece's length does
+  pub piece-fits : i < length marks → (other one : ℕ) → one ≡ count_of other (get_or marks i 0 ∷ []) → found + one ≤ length marks
+  piece-fits h other one e = let most = count-few other (get_or marks i 0 ∷ []) in omega (arith, h, e, most, p.small)
 
   pub counting-end : length marks ≤ i → found ≡ count_of mark marks
   unfolding count_of

@@ -3,7 +3,7 @@ ghost use Rattle.std.specs.Prelude.{◌≡◌, [], ◌∷◌, ◌+◌, ◌≤◌
 ghost use Rattle.results.specs.Marks.{count_of, counts_of, no_counts, total, plus_counts};
 
 // The counts of marks 0 to 4.
-#[derive(Drop)]
+#[derive(Clone, Copy)]
 pub struct Counts {
     pub clean: u64,
     pub alone: u64,

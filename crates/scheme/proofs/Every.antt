@@ -83,7 +83,9 @@ module _ (P : ℕ → Cell → Type 0) where
 
     every-lines : (ps : List ℕ) (s : State) (ns : List ℕ) → Every P s → Every P (try_lines read ps s ns)
     every-lines ps s [] f = f
-    every-lines ps s (n ∷ ns) f = every-lines ps _ ns (every_set s n _ f (go (is_faulty (cell_at s n)) refl))
+    every-lines ps s (n ∷ ns) f =
+        let later : (t : State) → Every P t → Every P (try_lines read ps t ns) = λ t. every-lines ps t ns in
+        later _ (every_set s n _ f (go (is_faulty (cell_at s n)) refl))
       where
         go : (b : Bool) → is_faulty (cell_at s n) ≡ b → P n (cond b (try_places read n (cell_at s n) ps) (cell_at s n))
         go true e = every-search n (cell_at s n) ps e (f n)

@@ -2,6 +2,7 @@
 -- decides one line (OneLine), the passes (Passes, Running), demand 3 (ExactReturn, NotAlike), no line mended into another (NoneWrong),
 -- parity lines read alone (Parity, Used), accepted lines are correct (Sound), what rebuilding alone leaves (Within, Untried), and what
 -- these rest on.
+pub mod Additive
 pub mod Case
 pub mod Lists
 pub mod Words

@@ -26,7 +26,9 @@ use Rattle.scheme.proofs.Readings.{choose}
 module _ (m : ℕ) where
   tries-other : (read : Reading) (ps : List ℕ) (s : State) (ns : List ℕ) → (m ∈ ns → ⊥) → cell_at (try_lines read ps s ns) m ≡ cell_at s m
   tries-other read ps s [] d = refl
-  tries-other read ps s (n ∷ ns) d = tries-other read ps _ ns (λ i. d (inr i)) ∙ get_or-set_other s n m _ _ (λ e. d (inl e))
+  tries-other read ps s (n ∷ ns) d =
+      let later : (t : State) → cell_at (try_lines read ps t ns) m ≡ cell_at t m = λ t. tries-other read ps t ns (λ i. d (inr i)) in
+      later _ ∙ get_or-set_other s n m _ _ (λ e. d (inl e))
 
   trial-other : (read : Reading) (g : Group) (s : State) → (m ∈ g.members → ⊥) → cell_at (trial read g s) m ≡ cell_at s m
   unfolding trial
@@ -100,7 +102,9 @@ module _ (read : Reading) (g : Group) where
       → AlikeIn g (try_lines read ps s ns) (try_lines read ps t ns)
   alike-tries ps [] h a = a
   alike-tries ps (n ∷ ns) h a =
-      alike-tries ps ns (λ m i. h m (inr i)) (alike_set g a n (rw (a.cells n (h n (inl refl)))))
+      let later : (u v : State) → AlikeIn g u v → AlikeIn g (try_lines read ps u ns) (try_lines read ps v ns) =
+      λ u v. alike-tries {s = u} {t = v} ps ns (λ m i. h m (inr i)) in
+      later _ _ (alike_set g a n (rw (a.cells n (h n (inl refl)))))
 
   alike-visit : (s t : State) → AlikeIn g s t → AlikeIn g (visit read g s) (visit read g t)
   unfolding visit trial

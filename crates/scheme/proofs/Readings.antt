@@ -100,7 +100,8 @@ module _ {one two : Reading} (agree : Agreeing one two) where
   alike-tries ps [] a = a
   alike-tries ps (n ∷ ns) a =
       let r = alike_at a n in
-      alike-tries ps ns (alike_set a n (choose SameButMark (same-faulty r) (alike-search n ps r) r))
+      let later : (u v : State) → Alike u v → Alike (try_lines one ps u ns) (try_lines two ps v ns) = λ u v. alike-tries {s = u} {t = v} ps ns in
+      later _ _ (alike_set a n (choose SameButMark (same-faulty r) (alike-search n ps r) r))
 
   alike-visit : {s t : State} (g : Group) → Alike s t → Alike (visit one g s) (visit two g t)
   unfolding visit trial
@@ -110,7 +111,7 @@ module _ {one two : Reading} (agree : Agreeing one two) where
 
   alike-pass : {s t : State} (gs : List Group) → Alike s t → Alike (pass one gs s) (pass two gs t)
   alike-pass [] a = a
-  alike-pass (g ∷ gs) a = alike-pass gs (alike-visit g a)
+  alike-pass {s} {t} (g ∷ gs) a = alike-pass {s = visit one g s} {t = visit two g t} gs (alike-visit g a)
 
   alike-reading : (n : ℕ) (found : List Word) → Alike (read_all one n found) (read_all two n found)
   alike-reading n [] = nil
@@ -118,9 +119,9 @@ module _ {one two : Reading} (agree : Agreeing one two) where
 
   alike-passes : {s t : State} (k : ℕ) (gs : List Group) → Alike s t → Ends (passes_up_to k one gs s) (passes_up_to k two gs t)
   alike-passes zero gs a = (a, refl)
-  alike-passes (suc k) gs a =
+  alike-passes {s} {t} (suc k) gs a =
       let after = alike-pass gs a in
-      let later = alike-passes k gs after in
+      let later = alike-passes {s = pass one gs s} {t = pass two gs t} k gs after in
       choose Ends (ap (λ (n : ℕ). eqb n 0) (alike-count a)) (a, refl)
       (choose Ends (ap₂ eqb (alike-count after) (alike-count a)) (after, refl) (later.0, ap suc later.1))
 

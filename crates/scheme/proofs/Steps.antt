@@ -51,7 +51,9 @@ module _ (read : Reading) where
 
   pub try_lines-grows : (ps : List ℕ) (s : State) (ns : List ℕ) → Grows s (try_lines read ps s ns)
   try_lines-grows ps s [] = grows-refl s
-  try_lines-grows ps s (n ∷ ns) = grows-trans (grows-set s n _ (go (is_faulty (cell_at s n)) refl)) (try_lines-grows ps _ ns)
+  try_lines-grows ps s (n ∷ ns) =
+      let later : (t : State) → Grows t (try_lines read ps t ns) = λ t. try_lines-grows ps t ns in
+      grows-trans (grows-set s n _ (go (is_faulty (cell_at s n)) refl)) (later _)
     where
       go : (b : Bool) → is_faulty (cell_at s n) ≡ b
           → Kept (cell_at s n) (cond b (try_places read n (cell_at s n) ps) (cell_at s n))

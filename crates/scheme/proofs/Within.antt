@@ -28,7 +28,9 @@ tries-nothing n c (p ∷ ps) = tries-nothing n c ps
 
 lines-try-nothing : (ps : List ℕ) (s : State) (ns : List ℕ) → try_lines never ps s ns ≡ s
 lines-try-nothing ps s [] = refl
-lines-try-nothing ps s (n ∷ ns) = lines-try-nothing ps _ ns ∙ go (is_faulty (cell_at s n))
+lines-try-nothing ps s (n ∷ ns) =
+    let later : (t : State) → try_lines never ps t ns ≡ t = λ t. lines-try-nothing ps t ns in
+    later _ ∙ go (is_faulty (cell_at s n))
   where
     go : (b : Bool) → set s n (cond b (try_places never n (cell_at s n) ps) (cell_at s n)) ≡ s
     go true = ap (set s n) (tries-nothing n (cell_at s n) ps) ∙ set-get_or s n _

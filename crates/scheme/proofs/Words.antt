@@ -1,8 +1,8 @@
 -- Weight, distance and single places of words, and the places of a mismatch.
-use mathlib.Core.Path.{◌≡◌, refl, sym, ap, ◌∙◌}
+use mathlib.Core.Path.{◌≡◌, refl, sym, ap, ◌∙◌, subst}
 use mathlib.Core.Logic.{inl, inr}
 use mathlib.Core.Bool.{true, false, false≢true}
-use mathlib.Core.List.{[], ◌∷◌}
+use mathlib.Core.List.{List, [], ◌∷◌}
 use Prim.Native.Nat.{ℕ, zero, suc, ◌+◌, ◌≤◌}
 use native.Mathlib.Nat.{add-zero, add-suc, suc-add, suc_inj}
 use native.Mathlib.Omega.{arith}
@@ -60,9 +60,12 @@ length-set_places i [] = refl
 length-set_places i (false ∷ w) = length-set_places (suc i) w
 length-set_places i (true ∷ w) = ap suc (length-set_places (suc i) w)
 
+next-place : (i p : ℕ) (l : List ℕ) → (suc i + p) ∈ l → (i + suc p) ∈ l
+next-place i p l = subst (λ k. k ∈ l) (suc-add i p ∙ sym (add-suc i p))
+
 pub in-set_places : (i : ℕ) (w : Word) (p : ℕ) → get_or w p false ≡ true → (i + p) ∈ set_places i w
 in-set_places i [] p e = absurd (false≢true e)
 in-set_places i (false ∷ w) zero e = absurd (false≢true e)
 in-set_places i (true ∷ w) zero e = inl (add-zero i)
-in-set_places i (false ∷ w) (suc p) e = rw (add-suc i p ∙ sym (suc-add i p)) (in-set_places (suc i) w p e)
-in-set_places i (true ∷ w) (suc p) e = rw (add-suc i p ∙ sym (suc-add i p)) (inr (in-set_places (suc i) w p e))
+in-set_places i (false ∷ w) (suc p) e = next-place i p (set_places (suc i) w) (in-set_places (suc i) w p e)
+in-set_places i (true ∷ w) (suc p) e = inr (next-place i p (set_places (suc i) w) (in-set_places (suc i) w p e))

@@ -1,10 +1,11 @@
 -- Cases that tell: "The mismatch .. is worked out once in a visit" from a mismatch worked out again after a trial took, and the bound of
 -- request Q-6 from its converse.
-use Rattle.std.specs.Prelude.{◌≡◌, cond, List, [], ◌∷◌, ℕ, leb}
+use Rattle.std.specs.Prelude.{◌≡◌, cond, List, [], ◌∷◌, map, ℕ, leb}
 use Rattle.gf2.specs.Word.{Word, zeros, weight, flip}
-use Rattle.scheme.specs.Layer.{Cell}
-use Rattle.scheme.specs.Visit.{Group}
-use Rattle.scheme.specs.Repair.{repair, marks_of}
+use Rattle.scheme.specs.Layer.{Cell, Layer}
+use Rattle.scheme.specs.Visit.{Group, State, trial, visit}
+use Rattle.scheme.specs.Repair.{read_all, repair, lines_of, marks_of, answer}
+use Rattle.scheme.specs.Parity.{as_read, parity_after}
 use Rattle.scheme.specs.Forecast.{foreseen}
 
 -- a small line code of k places: its only correct line is zero, and it takes back one damaged bit
@@ -51,3 +52,55 @@ hurt_four = hurt_at (0 ∷ 1 ∷ []) ∷ hurt_at (2 ∷ 3 ∷ []) ∷ hurt_at (0
 pub record TrialsSaveMore : Type 0 where
   pub repaired : marks_of (repair (read_zero 5) two_by_two hurt_four).cells ≡ 2 ∷ 2 ∷ 2 ∷ 2 ∷ []
   pub forecast : marks_of (foreseen two_by_two (1 ∷ 2 ∷ 4 ∷ 255 ∷ [])).cells ≡ 4 ∷ 4 ∷ 4 ∷ 4 ∷ []
+
+-- ---- further cases, over lines of seven places
+-- the same line code as a layer of seven places
+abbrev pub seven_layer : Layer
+seven_layer = record { width = 7; address = λ n. n; read = read_zero 7; Correct = λ a w. w ≡ zeros 7 }
+
+-- a zero line of seven places, hurt at some of them; a group of such lines, of which the parity line is hurt at some places
+abbrev pub hurt_seven_at : List ℕ → Word
+hurt_seven_at [] = zeros 7
+hurt_seven_at (p ∷ ps) = flip p (hurt_seven_at ps)
+
+abbrev pub seven_group : List ℕ → List ℕ → Group
+seven_group members places = record { members = members; parity = hurt_seven_at places }
+
+-- a row of two lines, hurt at two places and at some others, after the first reading
+abbrev pub seven_pair : Group
+seven_pair = seven_group (0 ∷ 1 ∷ []) []
+
+abbrev pub hurt_pair : List ℕ → State
+hurt_pair others = read_all (read_zero 7) 0 (hurt_seven_at (0 ∷ 1 ∷ []) ∷ hurt_seven_at others ∷ [])
+
+-- "If it has 1 to 6 places": of a mismatch of six line 0 takes place 0, of one of seven no line tries any
+pub record SixPlacesTried : Type 0 where
+  pub six : marks_of (trial (read_zero 7) seven_pair (hurt_pair (2 ∷ 3 ∷ 4 ∷ 5 ∷ []))) ≡ 2 ∷ 4 ∷ []
+  pub seven : marks_of (trial (read_zero 7) seven_pair (hurt_pair (2 ∷ 3 ∷ 4 ∷ 5 ∷ 6 ∷ []))) ≡ 4 ∷ 4 ∷ []
+
+-- "If exactly one line is then left faulty, it is rebuilt.": line 1, in the same visit in which line 0's trial took
+pub record RebuiltInTheSameVisit : Type 0 where
+  pub marks : marks_of (visit (read_zero 7) seven_pair (hurt_pair (2 ∷ 3 ∷ 4 ∷ []))) ≡ 2 ∷ 3 ∷ []
+  pub lines : lines_of (visit (read_zero 7) seven_pair (hurt_pair (2 ∷ 3 ∷ 4 ∷ []))) ≡ hurt_seven_at [] ∷ hurt_seven_at [] ∷ []
+
+-- request Q-3, "accepted ones as read, faulty ones as found unless made afresh": the parity line of a group of one line, hurt at one place
+-- and at two, where that line is whole and where it is faulty
+abbrev pub parity_left : List ℕ → List ℕ → Word
+parity_left line parity =
+    parity_after seven_layer (read_all (read_zero 7) 0 (hurt_seven_at line ∷ [])) (seven_group (0 ∷ []) parity)
+
+pub record ParityHandedOver : Type 0 where
+  pub read : parity_left [] (0 ∷ []) ≡ hurt_seven_at []
+  pub afresh : parity_left [] (0 ∷ 1 ∷ []) ≡ hurt_seven_at []
+  pub found : parity_left (2 ∷ 3 ∷ []) (0 ∷ 1 ∷ []) ≡ hurt_seven_at (0 ∷ 1 ∷ [])
+
+-- request Q-3, "Answer 12 compares only the accepted ones.", each as read: the answer for one such group and a cell of mark 0, as if its
+-- line had been read so
+abbrev pub answer_beside : List ℕ → List ℕ → ℕ
+answer_beside line parity =
+    answer (map (as_read seven_layer) (seven_group (0 ∷ []) parity ∷ [])) (record { line = hurt_seven_at line; mark = 0 } ∷ [])
+
+pub record AcceptedOnesCompared : Type 0 where
+  pub agrees : answer_beside [] (0 ∷ []) ≡ 0
+  pub differs : answer_beside (2 ∷ []) (0 ∷ []) ≡ 12
+  pub unusable : answer_beside (2 ∷ []) (0 ∷ 1 ∷ []) ≡ 0

@@ -8,7 +8,7 @@ use borrow.Author.Tests.{eqb-true}
 use lib.ListN.{length, take, drop, length-drop, take-append-drop}
 use lib.Seq.{take_all, drop-drop, length-take-le}
 use Rattle.linecode.specs.Places.{line_bytes}
-use Rattle.storefile.specs.Header.{header_bytes, lines_part, row_table_part, column_table_part, file_length, header, bytes_in}
+use Rattle.storefile.specs.Header.{header_bytes, lines_part, row_table_part, column_table_part, file_length, bytes_in}
 use Rattle.storefile.specs.Opening.{rows_in, columns_in, entries_fit, contents_fit, opened, body}
 use Rattle.storefile.specs.Promises.{BodiesCover, OpenedFileCovered, NoBodies, RefusedFileEmpty}
 use Rattle.storefile.specs.declared.header.Part.{Part}

@@ -65,6 +65,7 @@ fn refused(answer: u32) -> Opened
 }
 
 // A file opened, its rows and columns at most a limit.
+#[tactic(auto, using(crate::proofs::Openings::too_short))]
 pub fn open_within(limit: usize, file: &[u8]) -> Opened
     ensures { result ≡ opened limit file.now }
 {

@@ -10,8 +10,9 @@ use borrow.Author.Count.{below_more}
 use lib.ListN.{length}
 use Rattle.linecode.specs.Places.{line_bytes, line_of, xor_bytes}
 use Rattle.linecode.proofs.Bytes.{length-xor_bytes}
+use Rattle.linecode.specs.Code.{up_from}
 use Rattle.rectangle.specs.Store.{bytes_at, put_bytes, put_line, alone_at}
-use Rattle.rectangle.specs.Refusals.{accepted_at}
+use Rattle.rectangle.specs.Refusals.{every, accepted_at}
 use Rattle.tables.specs.Sweep.{PieceRead, with_lines, LinesAdded, PieceSummed}
 use Rattle.rectangle.proofs.Spare.{bytes-is}
 use Rattle.rectangle.proofs.Buffer.{bytes_at-put, bytes_at-other, length-put_bytes, bytes_at-put_bytes, bytes_at-still}
@@ -56,6 +57,11 @@ piece-stands lines n i t line e f m =
       read = below_more _ _ t.read (sym e ∙ f);
     }
 
+-- a faulty line ends the piece
+pub faulty_within : (lines : List ℕ) (n count i : ℕ) → i < count → (alone_at lines (n + i)).mark ≡ 4
+    → every (accepted_at lines) (up_from n count) ≡ false
+faulty_within lines n count i h f = fails-from (accepted_at lines) n count i h (faulty-alone lines (n + i) 4 (sym f) refl)
+
 module _ (lines : List ℕ) (n count : ℕ) (few : count ≤ 8) (piece : List ℕ) (room : length piece ≡ 8 * 70) (i : ℕ)
     (t : PieceTurn lines n (bytes_at piece) i) (h : i < count) (piece' : List ℕ)
     (put : piece' ≡ put_line piece i (alone_at lines (n + i)).line) (mark : ℕ) (m : mark ≡ (alone_at lines (n + i)).mark) where
@@ -65,14 +71,6 @@ module _ (lines : List ℕ) (n count : ℕ) (few : count ≤ 8) (piece : List �
 
   below : i < 8
   below = omega arith
-
-  -- a faulty line ends the piece
-  pub piece-faulty : mark ≡ 4 → PieceRead lines n count (bytes_at piece') false
-  piece-faulty f =
-      record {
-        answer = sym (fails-from (accepted_at lines) n count i h (faulty-alone lines (n + i) mark m f));
-        read = λ z. absurd (true≢false (sym z));
-      }
 
   pub piece-more : (mark ≡ 4 → ⊥) → PieceTurn lines n (bytes_at piece') (i + 1)
   piece-more d =

@@ -37,6 +37,7 @@ fn all_untouched(lines: &[u8], n: usize, count: usize, sums: [u32; 8]) -> bool
 }
 
 // So many lines, from line n on, read alone into the first lines of a piece: whether all are accepted. A faulty line ends it.
+#[tactic(auto, using(crate::proofs::Pieces::faulty_within))]
 fn read_piece(
     table: &[u64; 4096],
     lines: &[u8],

@@ -5,7 +5,7 @@
 use results::marks::Counts;
 
 // How many stores repair handed over with each of its answers 0, 11 and 12.
-#[derive(Drop)]
+#[derive(Clone, Copy)]
 pub struct Answers {
     pub done: u64,
     pub left: u64,
@@ -13,7 +13,7 @@ pub struct Answers {
 }
 
 // A report: stores and lines seen, lines for each mark, stores for each answer.
-#[derive(Drop)]
+#[derive(Clone, Copy)]
 pub struct Wear {
     pub stores: u64,
     pub lines: u64,
@@ -22,14 +22,14 @@ pub struct Wear {
 }
 
 // What an addition answers, and the report after it.
-#[derive(Drop)]
+#[derive(Clone, Copy)]
 pub struct Added {
     pub answer: u32,
     pub wear: Wear,
 }
 
 // What a comparison answers, and the order of the shares: 0 equal, 1 the first is smaller, 2 it is greater.
-#[derive(Drop)]
+#[derive(Clone, Copy)]
 pub struct Compared {
     pub answer: u32,
     pub order: u32,

@@ -76,9 +76,9 @@ module _ (out marks : List ℕ) (first step count : ℕ) (l : Lent out marks fir
         unfolding g s
         no-mismatch h = nothing-becomes _ out marks (trials.no-mismatch g s (places lack) lack-is number array listed h)
 
-        pub many-places : 6 < number → Becomes (trial (read_line line_layer) (group_at first step count parity)) out marks out marks
+        pub many_places : 6 < number → Becomes (trial (read_line line_layer) (group_at first step count parity)) out marks out marks
         unfolding g s
-        many-places h = nothing-becomes _ out marks (trials.many-places g s (places lack) lack-is number array listed h)
+        many_places h = nothing-becomes _ out marks (trials.many-places g s (places lack) lack-is number array listed h)
 
         -- one to six places are tried
         pub places-tried : (out' marks' : List ℕ) → 2 ≤ faulty → 1 ≤ number → number ≤ 6

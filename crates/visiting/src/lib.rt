@@ -108,6 +108,7 @@ fn settle_group(
 }
 
 // Where two or more lines are faulty, the difference is the mismatch; if it has 1 to 6 places, the faulty lines try them.
+#[tactic(auto, using(crate::proofs::Cases::many_places))]
 fn try_group(
     out: &mut [u8],
     marks: &mut [u8],

@@ -38,14 +38,14 @@ ten-stored l ten a b c d e f g h i j = stored-all (a ∷ b ∷ c ∷ d ∷ e ∷
 -- an addition on ten numbers: written where it is taken, and else as they were
 module _ (numbers : List ℕ) (store : Result) (ten : length numbers ≡ 10) (w : Declared.Wear) (e : w ≡ wear_in numbers) (added : Added)
     (f : added ≡ add_store w store) where
-  pub numbers-taken : (after : List ℕ) → after ≡ numbers_of added.wear
+  pub numbers_taken : (after : List ℕ) → after ≡ numbers_of added.wear
       → record { answer = added.answer; numbers = after } ≡ add_numbers numbers store
   unfolding add_numbers report_numbers
-  numbers-taken after g = rw (eq-eqb (length numbers) 10 ten, ← e, ← f, g)
+  numbers_taken after g = rw (eq-eqb (length numbers) 10 ten, ← e, ← f, g)
 
-  pub numbers-refused : (added.answer ≡ 0 → ⊥) → record { answer = added.answer; numbers = numbers } ≡ add_numbers numbers store
+  pub numbers_refused : (added.answer ≡ 0 → ⊥) → record { answer = added.answer; numbers = numbers } ≡ add_numbers numbers store
   unfolding report_numbers
-  numbers-refused n =
+  numbers_refused n =
       let same : added ≡ record { answer = 15; wear = w } = f ∙ refused.refused w store (λ a. n (ap (λ (r : Added). r.answer) f ∙ a)) in
       let kept : added.wear ≡ wear_in numbers = ap (λ (r : Added). r.wear) same ∙ e in
-      numbers-taken numbers (sym (ap numbers_of kept ∙ written_back numbers ten))
+      numbers_taken numbers (sym (ap numbers_of kept ∙ written_back numbers ten))

@@ -55,6 +55,7 @@ fn plus_store(w: Wear, counts: Counts, lines: u64, answer: u32) -> Wear
 }
 
 // Whether a report takes in a store of so many lines with an answer, whatever its marks are.
+#[tactic(auto, unfolding(tour::specs::Adding::has_room, tour::specs::Adding::most_stores, tour::specs::Adding::most_lines))]
 fn takes(w: Wear, lines: u64, answer: u32) -> bool
     ensures { result ≡ is_report w && (has_room w && (leb 4 lines && (leb lines most_lines && hands_over answer))) }
 {
@@ -76,7 +77,7 @@ fn takes(w: Wear, lines: u64, answer: u32) -> bool
 // The entry point: one repair result more, or 15 and the report as it was. Marks that are none of 0 to 4 are in no count: where there are
 // any, the counts don't add up to the lines.
 pub fn add(w: Wear, marks: &[u8], answer: u32) -> Added
-    ensures { result ≡ add_store w (record { marks = marks.entry.now; answer = answer }) }
+    ensures { result ≡ add_store w (record { marks = marks.now; answer = answer }) }
 {
     let lines = marks.len() as u64;
     if !takes(w, lines, answer) {

@@ -49,10 +49,11 @@ fn write(w: Wear, numbers: &mut [u64])
 }
 
 // The entry point that adds: 7 for another length, then 15; a refusal writes nothing.
+#[tactic(auto, using(crate::proofs::Ten::numbers_taken, crate::proofs::Ten::numbers_refused))]
 pub fn add_numbers(numbers: &mut [u64], marks: &[u8], answer: u32) -> u32
     ensures { ◌≡◌ {A = NumbersAdded}
         (record { answer = result; numbers = numbers.new })
-        (add_numbers numbers.old (record { marks = marks.entry.now; answer = answer })) }
+        (add_numbers numbers.old (record { marks = marks.now; answer = answer })) }
 {
     let room = numbers.len();
     if room != 10 {

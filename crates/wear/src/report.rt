@@ -61,6 +61,7 @@ fn answers_add_up(a: Answers, stores: u64) -> bool
 }
 
 // Whether some numbers are a report. The product is made once the stores are known to be few.
+#[tactic(auto, unfolding(tour::specs::Adding::is_report, tour::specs::Adding::most_stores, tour::specs::Adding::most_lines))]
 pub fn is_report(w: Wear) -> bool
     ensures { result ≡ is_report w }
 {

@@ -49,6 +49,7 @@ fn order(a: Wide, b: Wide) -> u32
 }
 
 // What a report's share is a share of: where there are no lines, of one.
+#[tactic(auto, unfolding(tour::specs::Share::out_of))]
 fn out_of(w: Wear) -> u64
     ensures { result ≡ out_of w }
 {

@@ -1,0 +1,15 @@
+-- `report::report::put_line` meets its contract.
+use Rattle.report.specs.Report.{line}
+use Rattle.storefile.proofs.Placing.{put_then}
+use native.Mathlib.Omega.{arith}
+use Rattle.report.proofs.report.put_line.Goals as goal
+
+pub returns : goal.returns
+unfolding line
+returns c =
+    record {
+      written = put_then _ _ _ _ _ _ _ _ (omega (arith, c.put_bytes-number.ensures.after, c.put_spaced-end.ensures.short, c.requires))
+          (put_then _ _ _ _ _ _ _ _ (omega (arith, c.put_bytes-number.ensures.after, c.requires)) c.put_bytes-number.ensures c.put_spaced-end.ensures.written)
+          c.put_bytes.ensures;
+      short = omega (arith, c.put_bytes-number.ensures.after, c.put_spaced-end.ensures.short, c.put_bytes.ensures.after);
+    }
