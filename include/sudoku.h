@@ -2,7 +2,7 @@
  * The caption store: lines of 70 bytes in a rectangle with parity lines, after the SuDoku scheme.
  *
  * Link with libsudoku.a, which `bin/install PREFIX` puts into PREFIX/lib, or with the same archive in the repository, libcapi.a, which
- * `rt staticlib capi` writes to target/staticlib (x86-64 Linux). Each of its functions, the first thirteen below, is proved to give,
+ * `bin/library` writes to target/staticlib (x86-64 Linux). Each of its functions, the first thirteen below, is proved to give,
  * for any input, the answer, the values and every byte of every writable buffer that the store's rules ask for. The functions after
  * them, on a struct sudoku_store, only hand over to these; they and the words for answers and marks are compiled with the caller, and
  * are tested.

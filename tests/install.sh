@@ -194,11 +194,11 @@ for itself in "$room/copy" "$room/same/" "$room/copy/bin/.."; do
 done
 same "the repository then" "$before" "$(found_in "$room/copy")"
 mkdir "$room/tools"
-printf '#!/bin/sh\necho "rt: one NOT PROVED"\nexit 1\n' >"$room/tools/rt"
+printf '#!/bin/sh\necho "rt: the library one did not build"\nexit 1\n' >"$room/tools/rt"
 chmod +x "$room/tools/rt"
 PATH=$room/tools:$room/plain "$room/copy/bin/install" "$room/never" >"$room/out" 2>"$room/said"
 same "a build that fails" "1 install: it could not be built; target/install.log says why" "$? $(tail -n 1 "$room/said")"
-same "what it was" 1 "$(grep -c '^install: one NOT PROVED$' "$room/said")"
+same "what it was" 1 "$(grep -c '^install: the library one did not build$' "$room/said")"
 [ ! -e "$room/never" ]
 same "what it installs" 0 $?
 PATH=$room/plain "$room/copy/bin/install" "$room/never" >"$room/out" 2>"$room/said"

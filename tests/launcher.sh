@@ -1,6 +1,6 @@
 #!/bin/sh
-# bin/captions as a launcher: what it builds and when, what it says, and that the program it runs gets everything as it was given. The
-# tools are stand-ins that write down how they were called.
+# bin/captions as a launcher, and bin/library: what is built and when, what is said, and that the program that is run gets everything as
+# it was given. The tools are stand-ins that write down how they were called.
 set -u
 cd "$(dirname "$0")/.." || exit 1
 . tests/checks.sh
@@ -18,12 +18,13 @@ cat >"$room/tools/rt" <<'TOOL'
 #!/bin/sh
 echo "rt $* in ${PWD##*/}" >>"$CALLS"
 cat >/dev/null
+echo "rt: chose --jobs 2 for one"
 echo "fn one::first: proved"
-echo "rt: one proved (1 s)"
+echo "rt: rt lemma WORD.. finds a lemma"
 [ "${FAILS:-}" != rt ] || exit 3
 [ "${MAKES_NOTHING:-}" != rt ] || exit 0
-mkdir -p target/staticlib
-[ -f target/staticlib/libcapi.a ] || echo archive >target/staticlib/libcapi.a
+mkdir -p out
+echo archive >out/libcapi_c.a
 TOOL
 cat >"$room/tools/cargo" <<'TOOL'
 #!/bin/sh
@@ -72,7 +73,7 @@ said() {
     tr '\n' ';' <"$room/said"
 }
 
-rt_call="rt staticlib capi in a copy;"
+rt_call="rt lib in capi_c;"
 cargo_call="cargo build --release --offline --locked -p captions --target-dir in rust, SUDOKU_STATICLIB unset;"
 
 # Tools that are missing are told before anything is built.
@@ -81,16 +82,17 @@ same "without rt" "1 captions: the toolchain's command rt is not on the path; it
 FAILS=rt run show
 same "a library that cannot be proved" "1 $rt_call" "$(status) $(called)"
 same "what is said then" "captions: it could not be built; target/captions.log says why" "$(tail -n 1 "$room/said")"
-same "what its log has" "fn one::first: proved;rt: one proved (1 s);the tool's status: 3;" "$(tr '\n' ';' <"$copy/target/captions.log")"
+same "what its log has" \
+    "rt: chose --jobs 2 for one;fn one::first: proved;rt: rt lemma WORD.. finds a lemma;the tool's status: 3;" "$(tr '\n' ';' <"$copy/target/captions.log")"
 same "what is printed then" "" "$(cat "$room/out")"
 MAKES_NOTHING=rt run show
 same "a library that is not there after all" "1 $rt_call" "$(status) $(called)"
-same "what is said of it" 1 "$(grep -c "^captions: it could not be built: there is no '$copy/target/staticlib/libcapi.a';" "$room/said")"
+same "what is said of it" 1 "$(grep -c "^captions: it could not be built: there is no '$copy/crates/capi_c/out/libcapi_c.a';" "$room/said")"
 FAILS=cargo run show
 same "a program that cannot be built" "1 $rt_call$cargo_call" "$(status) $(called)"
 same "the last words then" "captions: it could not be built; target/captions.log says why" "$(tail -n 1 "$room/said")"
-same "the log of both tools" "rt: one proved (1 s);the tool's status: 0;the tool's status: 101;" \
-    "$(grep -e '^rt: ' -e status "$copy/target/captions.log" | tr '\n' ';')"
+same "the log of both tools" "rt: chose --jobs 2 for one;the tool's status: 0;the tool's status: 101;" \
+    "$(grep -e '^rt: chose' -e status "$copy/target/captions.log" | tr '\n' ';')"
 MAKES_NOTHING=cargo run show
 same "a program that is not there after all" "1 $cargo_call" "$(status) $(called)"
 cp "$room/tools/rt" "$room/plain"
@@ -110,7 +112,8 @@ unset SUDOKU_STATICLIB CARGO_TARGET_DIR
 rm -rf "$copy/target" "$copy/rust/target"
 run one
 same "first use of all" "0 $rt_call$cargo_call" "$(status) $(called)"
-same "the crates are shown" 1 "$(grep -c '^captions: one proved (1 s)$' "$room/said")"
+same "the crates are shown" "1 0" "$(grep -c '^captions: proving one$' "$room/said") $(grep -c lemma "$room/said")"
+same "the archive in its place" archive "$(cat "$copy/target/staticlib/libcapi.a")"
 
 # From then on nothing is built and nothing said, and no tool is needed.
 PATH=$room/plain "$launcher" one >"$room/out" 2>"$room/said"
@@ -154,6 +157,9 @@ for file in rust/captions/main.rs rust/sudoku/src/lib.rs rust/Cargo.toml rust/Ca
     same "$file is newer" "0 $cargo_call" "$(changed $file)"
 done
 same "nothing is newer" "0 " "$(changed README)"
+mkdir "$copy/crates/one/out"
+: >"$copy/crates/one/out/kept"
+same "work that the toolchain keeps is newer" "0 " "$(changed crates/one/out/kept)"
 rm "$copy/README"
 touch -t 202001030000 "$copy/crates.txt"
 touch -t 202001020000 "$copy/target/staticlib/libcapi.a"
@@ -161,6 +167,21 @@ FAILS=rt run one
 same "a change that cannot be proved" "1 $rt_call" "$(status) $(called)"
 same "no old program is run then" "" "$(cat "$room/out")"
 touch -t 202001010000 "$copy/crates.txt"
+
+# The library alone, for programs in C.
+library() { # WORDS FOR bin/library..
+    : >"$CALLS"
+    PATH=$with_tools "$copy/bin/library" "$@" >"$room/out" 2>"$room/said" </dev/null
+    echo "$? $(called)"
+}
+rm -rf "$copy/target"
+same "the library alone" "0 $rt_call" "$(library)"
+same "its archive" archive "$(cat "$copy/target/staticlib/libcapi.a")"
+same "the library once more" "0 " "$(library)"
+same "the library called with a word" "2 " "$(library one)"
+rm -rf "$copy/target"
+same "a library that cannot be made" "1 $rt_call" "$(FAILS=rt library)"
+same "what is said of it then" "library: it could not be built; target/library.log says why" "$(tail -n 1 "$room/said")"
 
 rm -rf "$copy/target" "$copy/rust/target"
 : >"$copy/target"

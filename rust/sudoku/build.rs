@@ -1,6 +1,6 @@
 //! Links the proved static library.
 //!
-//! It is looked for where `rt staticlib capi` writes it, or at the path that
+//! It is looked for where `bin/library` writes it, or at the path that
 //! the environment variable `SUDOKU_STATICLIB` gives.
 
 use std::env;
@@ -27,7 +27,7 @@ fn main() {
     println!("cargo::rerun-if-changed={}", archive.display());
     let Ok(archive) = archive.canonicalize() else {
         println!(
-            "cargo::error=there is no static library at {}: run `rt staticlib capi` in the \
+            "cargo::error=there is no static library at {}: run `bin/library` in the \
              repository's root, or set {VARIABLE} to the path of libcapi.a or libsudoku.a",
             archive.display()
         );

@@ -43,6 +43,11 @@ fn hamming_bits_hurt_in_a_store_give_mark_1() {
 }
 
 #[test]
+fn marks_of_lines_hurt_at_one_place_then_and_now() {
+    q1::marks_then_and_now(|store| store.repaired(0xEE));
+}
+
+#[test]
 fn trial_and_rebuilt_lines_keep_their_marks() {
     q1::trial_and_rebuilt(|store| store.repaired(0xEE));
 }

@@ -35,6 +35,11 @@ fn expect_all(stores: impl Iterator<Item = Spoilt>) {
 }
 
 #[test]
+fn changes_worked_out_by_hand() {
+    q2::expect_by_hand(change);
+}
+
+#[test]
 fn every_set_of_bad_parity_lines() {
     expect_all(q2::every_set());
 }

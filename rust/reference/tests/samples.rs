@@ -391,6 +391,23 @@ fn plausible_mismatch_worked_out_again() {
 }
 
 #[test]
+fn plausible_mismatch_worked_out_again_by_place_1() {
+    // The mismatch is {1, 3, 4}: line 0 is mended by place 1. Line 1 has none
+    // of them; worked out again, it would be {0, 3, 4}, of which line 1 has 0.
+    let mut store = Store::zero(2, 3);
+    store.hurt(0, &[0, 1]);
+    store.hurt(1, &[0, 2]);
+    store.hurt(2, &[2, 3, 4]);
+    let outcome = store.repaired(0xEE);
+    assert_eq!(outcome.marks, [2, 3, 3, 0, 0, 0]);
+    assert_eq!((outcome.passes, outcome.answer), (1, 0));
+    let zero = Store::zero(2, 3);
+    assert_eq!(outcome.lines, zero.lines);
+    assert_eq!(outcome.row_table, zero.row_table);
+    assert_eq!(outcome.column_table, zero.column_table);
+}
+
+#[test]
 fn plausible_rebuilding_beside_a_faulty_line() {
     // Each row and column has two faulty lines and a mismatch above six.
     let outcome = two_by_two([&[0, 1], &[2, 3, 4, 5, 6], &[7, 8, 9, 10, 11], &[12, 13]]);

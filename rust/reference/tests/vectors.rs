@@ -1,5 +1,16 @@
 //! Public vectors, run through the same division and the same Hamming code as
-//! the store's lines.
+//! the store's lines. They come from
+//!
+//! - Peterson and Weldon, Error-Correcting Codes, second edition, appendix C:
+//!   the table of irreducible polynomials over two elements, in octal, degree 10;
+//! - Lin and Costello, Error Control Coding, appendix C: the generators of binary
+//!   BCH codes of lengths up to 1023, in octal;
+//! - Hamming, Error Detecting and Error Correcting Codes, Bell System Technical
+//!   Journal 29, 1950: which positions each check covers, and the 16 words of the
+//!   code of seven positions;
+//! - the Catalogue of parametrised CRC algorithms (CRC RevEng): check values.
+//!
+//! Each is worked out here, so that a slip of the pen would show.
 
 use reference::code::LineCode;
 use reference::hamming::{Hamming, Named};
@@ -44,6 +55,7 @@ fn minimal_polynomial(exponent: usize) -> Vec<u32> {
 
 #[test]
 fn minimal_polynomials_in_octal() {
+    // Peterson and Weldon, degree 10: roots a, a^3 and a^5.
     let octal = minimal_polynomials().map(|factor| to_number(&factor));
     assert_eq!(octal, [0o2011, 0o2017, 0o2415]);
 }
@@ -60,6 +72,7 @@ fn minimal_polynomials_from_their_roots() {
 
 #[test]
 fn double_error_generator_4014167() {
+    // Lin and Costello: the (1023, 1003) code, which corrects two errors.
     let [first, second, _] = minimal_polynomials();
     let generator = product(&first, &second);
     assert_eq!(to_number(&generator), 0o4014167);
@@ -134,7 +147,7 @@ fn no_seven_places_are_divisible() {
     assert_eq!(by_x_plus_1, [false]);
 }
 
-/// The reflected 32-bit CRC of the public catalogues, by plain division.
+/// The catalogue's CRC-32/ISO-HDLC, which is reflected, by plain division.
 fn crc_32(message: &[u8]) -> u32 {
     let mut bits: Vec<bool> = message
         .iter()
@@ -150,6 +163,7 @@ fn crc_32(message: &[u8]) -> u32 {
 
 #[test]
 fn crc_32_check_value() {
+    // The first is the catalogue's check value of CRC-32/ISO-HDLC.
     assert_eq!(crc_32(b"123456789"), 0xCBF4_3926);
     assert_eq!(crc_32(&[0; 4]), 0x2144_DF1C);
     assert_eq!(
@@ -160,7 +174,8 @@ fn crc_32_check_value() {
 
 #[test]
 fn crc_16_and_crc_24_check_values() {
-    // CRC-16/XMODEM: no starting value, no inversion, highest bit first.
+    // The catalogue's CRC-16/XMODEM and CRC-24/OPENPGP: no inversion, highest
+    // bit first, the former without a starting value.
     let bits = |start: &[bool], width: usize| {
         let message = b"123456789";
         let mut bits: Vec<bool> = message
@@ -202,7 +217,8 @@ fn bits(text: &str) -> Vec<bool> {
 
 #[test]
 fn hamming_7_4_table() {
-    // Data d1 d2 d3 d4, code word p1 p2 d1 p3 d2 d3 d4.
+    // Hamming's words of seven positions: data d1 d2 d3 d4, code word
+    // p1 p2 d1 p3 d2 d3 d4.
     let table = [
         ("0000", "0000000"),
         ("1000", "1110000"),
@@ -231,7 +247,7 @@ fn hamming_7_4_table() {
 
 #[test]
 fn hamming_15_11_table() {
-    // What each parity bit covers, by position.
+    // Hamming's table of what each check covers, by position.
     let covers: [&[usize]; 4] = [
         &[1, 3, 5, 7, 9, 11, 13, 15],
         &[2, 3, 6, 7, 10, 11, 14, 15],
@@ -252,6 +268,8 @@ fn hamming_15_11_table() {
 
 #[test]
 fn hamming_weights() {
+    // From no table, but the coefficients of
+    // ((1+x)^n + n (1+x)^((n-1)/2) (1-x)^((n+1)/2)) / (n+1).
     let weights = |data: usize| {
         let hamming = Hamming::new(data);
         let mut counts = vec![0; hamming.highest() + 1];

@@ -88,7 +88,7 @@
 //! # Linking
 //!
 //! The build looks for `target/staticlib/libcapi.a` in the repository, which
-//! `rt staticlib capi` writes, or for the file that the environment variable
+//! `bin/library` writes, or for the file that the environment variable
 //! `SUDOKU_STATICLIB` names: `libcapi.a`, or `libsudoku.a` where it is installed.
 
 pub mod c;

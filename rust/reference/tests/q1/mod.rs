@@ -92,6 +92,18 @@ pub fn trial_and_rebuilt(repaired: impl Fn(&Store) -> Outcome) {
     expect([four, &[550], &HAMMING, &[9]], [3, 1, 1, 1]);
 }
 
+/// Lines hurt at one place: the mark that each had before the request, and the
+/// one that it has now.
+pub fn marks_then_and_now(repaired: impl Fn(&Store) -> Outcome) {
+    for (place, then, now) in [(0, 1, 1), (542, 1, 1), (543, 0, 1)] {
+        let mut store = Store::zero(2, 2);
+        store.hurt(0, &[place]);
+        let marks = |mark| [mark, 0, 0, 0];
+        assert_eq!(before::repaired(&store).marks, marks(then), "place {place}");
+        assert_eq!(repaired(&store).marks, marks(now), "place {place}");
+    }
+}
+
 /// A 2 by 2 store of zero lines, two of them hurt in Hamming bits alone, and
 /// its report: both count under `alone`.
 pub fn report() -> (Store, &'static str) {

@@ -149,6 +149,33 @@ impl Spoilt {
     }
 }
 
+/// Changes worked out by hand: a 2 by 2 store of zero lines, of which the parity
+/// lines of a row and of a column have one damaged bit each. A line's own row
+/// and column count, and no other. The line written is document 01's, of which
+/// only place 511 is set; over a zero line it is the change too, and so it is
+/// what stands in both parity lines.
+pub fn expect_by_hand(change: impl Fn(&Call) -> Given) {
+    let cases = [(1, 0, 2, (13, 1)), (0, 1, 3, (14, 1)), (0, 1, 2, (0, 0))];
+    let mut last = [0; LINE_BYTES];
+    last[63..].copy_from_slice(&[0x80, 0xC7, 0x6F, 0x66, 0x56, 0x09, 0x00]);
+    for (row, column, n, (answer, number)) in cases {
+        let mut store = Store::zero(2, 2);
+        store.hurt_row_parity(row, &[0]);
+        store.hurt_column_parity(column, &[0]);
+        let mut call = call_on(&mut Random::new(18), store);
+        (call.n, call.data) = (n, last[..DATA_BYTES].to_vec());
+        let mut expected = refused(&call, (answer, number));
+        if answer == 0 {
+            // Line 2 stands in row 1 and column 0.
+            expected.after.lines[2 * LINE_BYTES..][..LINE_BYTES].copy_from_slice(&last);
+            expected.after.row_table[LINE_BYTES..].copy_from_slice(&last);
+            expected.after.column_table[..LINE_BYTES].copy_from_slice(&last);
+        }
+        let what = format!("bad row {row}, bad column {column}, line {n}");
+        expect(&change(&call), &expected, &what);
+    }
+}
+
 /// Every set of bad rows with every set of bad columns: none, each alone, some
 /// of one table, some of both.
 pub fn every_set() -> impl Iterator<Item = Spoilt> {

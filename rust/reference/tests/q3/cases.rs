@@ -17,6 +17,13 @@ pub const ELSE: &[usize] = &[2, 3];
 /// fewer. Flipped in a correct line, they make another of it.
 pub const EIGHT: [usize; 8] = [2, 210, 264, 384, 431, 441, 459, 480];
 
+/// The places of the line whose only data place set is 511: the starred sample's
+/// bytes 80, and C7 6F 66 56 09 00 after it.
+pub const LAST: [usize; 22] = [
+    511, 512, 513, 514, 518, 519, 520, 521, 522, 523, 525, 526, 529, 530, 533, 534, 537, 538, 540,
+    542, 543, 546,
+];
+
 /// Those of the eight whose bit is set.
 pub fn some_of_eight(bits: usize) -> Vec<usize> {
     let all = EIGHT.iter().enumerate();
@@ -175,6 +182,12 @@ fn accepted() -> Vec<Case> {
     let ring = (0..4).fold(nothing(), |hurt, n| hurt.line(n, TWO));
     let ring_hurt = ring.clone().row(0, &[7]).column(1, &[543]);
     vec![
+        case(
+            "one damaged bit in a row's parity line, and no line faulty",
+            nothing().row(0, &[0]),
+            (0, 0),
+            &[0; 4],
+        ),
         by_row("one damaged bit in a row's parity line", &[5]),
         by_column("one damaged bit in a column's parity line", &[542]),
         by_row(
@@ -306,7 +319,21 @@ fn afresh() -> Vec<Case> {
         rows.column(0, &[100, 552]).column(1, ELSE)
     };
     let one_bit = |n| nothing().line(n, &[9]);
+    let ring = (0..4).fold(nothing(), |hurt, n| hurt.line(n, TWO));
     vec![
+        case(
+            "an unusable row, and no line faulty",
+            nothing().row(0, TWO),
+            (0, 0),
+            &[0; 4],
+        ),
+        case(
+            "an unusable row, and all lines given up",
+            ring.row(0, TWO),
+            (11, 1),
+            &[4; 4],
+        )
+        .left_as_found(),
         case(
             "no usable parity line at all",
             every(nothing()),
@@ -341,7 +368,22 @@ fn afresh() -> Vec<Case> {
 fn other_line() -> Vec<Case> {
     let other = || nothing().line(0, &EIGHT);
     let beside = nothing().line(0, TWO).line(3, &EIGHT);
+    let last = || nothing().line(0, &LAST);
     vec![
+        case(
+            "the line of place 511: its row and column are unusable",
+            last().row(0, TWO).column(0, TWO),
+            (0, 0),
+            &[0; 4],
+        )
+        .left(last().row(0, &LAST).column(0, &LAST)),
+        case(
+            "the line of place 511: its column tells",
+            last().row(0, TWO),
+            (12, 0),
+            &[0; 4],
+        )
+        .left(last().row(0, &LAST)),
         case(
             "another line: its row and column tell",
             other(),

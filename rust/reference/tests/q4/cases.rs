@@ -4,7 +4,7 @@
 //! As in `q3`, each case goes for any rectangle written: what is found and what
 //! is given are told by the places that differ from it.
 
-use super::super::q3::cases::{EIGHT, ELSE, HAMMING, Places, TWO, nothing, some_of_eight};
+use super::super::q3::cases::{EIGHT, ELSE, HAMMING, LAST, Places, TWO, nothing, some_of_eight};
 use super::{Of, Store};
 
 /// Correct as found.
@@ -101,6 +101,7 @@ fn samples() -> Vec<Case> {
     };
     let apart = alike(&[0]).line(1, ELSE);
     let other = || nothing().line(0, &EIGHT);
+    let last = || nothing().line(0, &LAST);
     vec![
         two_by_two("nothing hurt", nothing(), 0, [CLEAN; 4]),
         one(0),
@@ -123,6 +124,7 @@ fn samples() -> Vec<Case> {
         ),
         two_by_two("four alike", alike(&[0, 1, 2, 3]), 11, [LEFT; 4]).left_as_found(),
         two_by_two("another line", other(), 12, [CLEAN; 4]).left(other()),
+        two_by_two("the line of place 511", last(), 12, [CLEAN; 4]).left(last()),
     ]
 }
 
@@ -190,6 +192,13 @@ fn unusable() -> Vec<Case> {
             0,
             [REBUILT, CLEAN, CLEAN, CLEAN],
         ),
+        two_by_two(
+            "its column can't be used either: the other lines are clean",
+            line().column(0, TWO),
+            11,
+            [LEFT, CLEAN, CLEAN, CLEAN],
+        )
+        .left_as_found(),
         two_by_two(
             "nothing can help",
             without_columns(line()),

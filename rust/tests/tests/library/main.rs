@@ -22,5 +22,6 @@ mod saving_files;
 mod store_files;
 mod storecheck;
 mod tours;
+mod vectors;
 mod wear;
 mod wear_type;

@@ -44,6 +44,13 @@ fn hamming_bits_hurt_in_a_store_give_mark_1() {
 }
 
 #[test]
+fn marks_of_lines_hurt_at_one_place_then_and_now() {
+    for on in both() {
+        q1::marks_then_and_now(|store| repaired(on, store));
+    }
+}
+
+#[test]
 fn trial_and_rebuilt_lines_keep_their_marks() {
     for on in both() {
         q1::trial_and_rebuilt(|store| repaired(on, store));

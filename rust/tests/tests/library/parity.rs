@@ -116,6 +116,14 @@ fn step() -> usize {
 }
 
 #[test]
+fn changes_worked_out_by_hand() {
+    for on in both() {
+        q2::expect_by_hand(|call| change(on, call));
+    }
+    q2::expect_by_hand(change_store);
+}
+
+#[test]
 fn every_set_of_bad_parity_lines() {
     expect_all(q2::every_set());
 }

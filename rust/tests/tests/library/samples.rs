@@ -242,6 +242,31 @@ fn long_chains_need_many_passes() {
 }
 
 #[test]
+fn the_mismatch_is_worked_out_once() {
+    // Of {0, 6, 7, 8} line 0 takes place 0, of {1, 3, 4} place 1. Worked out
+    // again after that, the mismatch would mend line 1 by trial.
+    let damage: [[&[usize]; 3]; 2] = [
+        [&[0, 1], &[1, 5], &[5, 6, 7, 8]],
+        [&[0, 1], &[0, 2], &[2, 3, 4]],
+    ];
+    for on in both() {
+        for hurt in damage {
+            let mut store = Store::zero(2, 3);
+            for (n, places) in hurt.into_iter().enumerate() {
+                store.hurt(n, places);
+            }
+            let outcome = repaired(on, &store);
+            assert_eq!(outcome.marks, [2, 3, 3, 0, 0, 0]);
+            assert_eq!((outcome.passes, outcome.answer), (1, 0));
+            let zero = Store::zero(2, 3);
+            assert_eq!(outcome.lines, zero.lines);
+            assert_eq!(outcome.row_table, zero.row_table);
+            assert_eq!(outcome.column_table, zero.column_table);
+        }
+    }
+}
+
+#[test]
 fn plausible_and_false() {
     for on in both() {
         // The corrector would flip place 2: the line stays as found.

@@ -32,7 +32,7 @@ fn printed(program: &Path, file: &[u8]) -> String {
         .stdin(Stdio::piped())
         .stdout(Stdio::piped())
         .spawn()
-        .expect("storecheck is built by `rt check storecheck`");
+        .expect("storecheck is built by `bin/storecheck`");
     if let Some(mut stdin) = child.stdin.take() {
         // It may stop reading before the end, as for a file that is too long.
         let _ = stdin.write_all(file);
