@@ -1,11 +1,19 @@
-// The table that is lent, as it stands in memory: 4096 entries, 256 for each of sixteen bytes, the last byte's first.
-// Public for the entry points above, which bind it once: 32 KB, that only many lines amortise.
+// The table that is lent, as it stands in memory: 4096 entries, 256 for each of sixteen bytes, the last byte's first. Public for the entry
+// points above, which bind it once: 32 KB of read-only data, which pay for themselves only where many lines are read.
 #![tactic(auto)]
 
 ghost use Rattle.std.specs.Prelude.{◌≡◌};
 ghost use Rattle.line_table.specs.Table.{line_table};
 
-const TABLE: [u64; 4096] = [
+// The table, with what is known of it: a parameter of this type needs no clause that says so again. The entries stay where they are: an array
+// in the struct would be built anew on the stack of each function that binds it.
+#[derive(Clone, Copy)]
+pub struct LineTable<'a> {
+    pub entries: &'a [u64; 4096],
+    pub ghost lent: { entries.now ≡ line_table },
+}
+
+static TABLE: [u64; 4096] = [
     0,
     5117499305871436974,
     6847445616348366547,
@@ -4105,8 +4113,6 @@ const TABLE: [u64; 4096] = [
 ];
 
 // The table, to be bound once and lent.
-pub fn lent() -> [u64; 4096]
-    ensures { result ≡ line_table }
-{
-    TABLE
+pub fn lent() -> LineTable<'static> {
+    LineTable { entries: &TABLE }
 }

@@ -1,10 +1,13 @@
 -- A line's 70 bytes and its 553 places: what stands in which byte, and that one is made from the other.
-use mathlib.Core.Path.{◌≡◌, refl, sym, ap, ap₂, ◌∙◌}
-use mathlib.Core.Bool.{Bool, true, false}
+use mathlib.Core.Path.{◌≡◌, refl, sym, ap, ap₂, ◌∙◌, subst}
+use mathlib.Core.Bool.{Bool, true, false, cond}
 use mathlib.Core.List.{List, [], ◌∷◌, ◌++◌, append_assoc}
 use Prim.Native.Nat.{ℕ, zero, suc, ◌+◌, ◌-◌, ◌*◌, ◌/◌, ◌%◌, ◌^◌, ◌≤◌, ◌<◌, min}
 use native.Mathlib.Omega.{arith}
+use native.Mathlib.Decide.{dec_lt}
+use borrow.Author.Tests.{lt-ltb, le-ltb}
 use lib.Bits.{bit_xor}
+use lib.Dec.{ltb}
 use lib.ListN.{length, take, drop, get_or, set, length-append, length-take, length-drop, take-append-drop, drop_of_length-le, length-replicate}
 use lib.Seq.{take_at, drop_at, drop-cons, take-append-add, drop-append-add, take-append-le, take-take, length-take-le, append_snoc, get_or-take, get_or-drop, get_or-append-add}
 use Rattle.gf2.specs.Word.{Word, ◌⊕◌, zeros, flip, digits, number}
@@ -13,7 +16,7 @@ use Rattle.gf2.proofs.Xor.{xor-append, take-xor, drop-xor}
 use Rattle.gf2.proofs.Weight.{take-flip, drop-flip, drop-flip-add, flip-append, flip-append-add, flip-past}
 use Rattle.linecode.specs.Places.{data_places, protected_places, hamming_places, line_places, line_bytes, bits_of, bytes_of, places, line_of, xor_bytes}
 use Rattle.linecode.specs.Code.{protected, data_of, stored_hamming}
-use Rattle.linecode.proofs.Bytes.{Bytes, length-bits_of, bits_of-append, take-bits_of, bytes_of-append, bits_of-bytes_of, bytes-bytes_of, length-bytes_of, bits_of-xor, xor_bytes-bytes_of, flip-bits_of, get_or-bits_of}
+use Rattle.linecode.proofs.Bytes.{Bytes, length-bits_of, bits_of-append, take-bits_of, bytes_of-append, bits_of-bytes_of, length-bytes_of, bits_of-xor, xor_bytes-bytes_of, flip-bits_of, get_or-bits_of}
 
 -- ---- the named numbers
 pub protected-is : protected_places ≡ 543
@@ -262,7 +265,7 @@ module _ (l : List ℕ) (whole : length l ≡ 70) where
       parts : (n : ℕ) → 8 * (n / 8) + n % 8 ≡ n
       parts n = omega arith
 
-  pub flip-protected : (i : ℕ) → i < 543 → places (set l (i / 8) (bit_xor (get_or l (i / 8) 0) (2 ^ (i % 8)))) ≡ flip i (places l)
+  flip-protected : (i : ℕ) → i < 543 → places (set l (i / 8) (bit_xor (get_or l (i / 8) 0) (2 ^ (i % 8)))) ≡ flip i (places l)
   unfolding places
   flip-protected i h =
       ap (λ (w : Word). take protected_places w ++ take hamming_places (drop (suc protected_places) w)) (turned i (omega arith))
@@ -271,7 +274,7 @@ module _ (l : List ℕ) (whole : length l ≡ 70) where
       ∙ sym (flip-append i (take protected_places (bits_of l)) (take hamming_places (drop (suc protected_places) (bits_of l)))
       (omega (arith, front_length, protected-is)))
 
-  pub flip-hamming : (i : ℕ) → 543 ≤ i → i < 553
+  flip-hamming : (i : ℕ) → 543 ≤ i → i < 553
       → places (set l ((i + 1) / 8) (bit_xor (get_or l ((i + 1) / 8) 0) (2 ^ ((i + 1) % 8)))) ≡ flip i (places l)
   unfolding places
   flip-hamming i h j =
@@ -293,6 +296,29 @@ module _ (l : List ℕ) (whole : length l ≡ 70) where
 
       place : length (take protected_places (bits_of l)) + (i - 543) ≡ i
       place = omega (arith, front_length, protected-is)
+
+  -- the same of the bit at which a place stands, protected or not
+  pub place-bit : (i b : ℕ) → i < 553 → b ≡ cond (ltb i 543) i (i + 1) → get_or (places l) i false ≡ bit (b % 8) (get_or l (b / 8) 0)
+  place-bit i b h e = go (dec_lt i 543)
+    where
+      go : Dec (i < 543) → get_or (places l) i false ≡ bit (b % 8) (get_or l (b / 8) 0)
+      go (yes d) =
+          subst (λ (n : ℕ). get_or (places l) i false ≡ bit (n % 8) (get_or l (n / 8) 0)) (sym (e ∙ ap (λ (t : Bool). cond t i (i + 1)) (lt-ltb i 543 d)))
+          (protected-place l whole i d ∙ protected-bit l whole i d)
+      go (no d) =
+          subst (λ (n : ℕ). get_or (places l) i false ≡ bit (n % 8) (get_or l (n / 8) 0)) (sym (e ∙ ap (λ (t : Bool). cond t i (i + 1)) (le-ltb i 543 (omega arith))))
+          (hamming-bit l whole i (omega arith) h)
+
+  pub flip-bit : (i b : ℕ) → i < 553 → b ≡ cond (ltb i 543) i (i + 1)
+      → places (set l (b / 8) (bit_xor (get_or l (b / 8) 0) (2 ^ (b % 8)))) ≡ flip i (places l)
+  flip-bit i b h e = go (dec_lt i 543)
+    where
+      P : ℕ → Type 0
+      P n = places (set l (n / 8) (bit_xor (get_or l (n / 8) 0) (2 ^ (n % 8)))) ≡ flip i (places l)
+
+      go : Dec (i < 543) → places (set l (b / 8) (bit_xor (get_or l (b / 8) 0) (2 ^ (b % 8)))) ≡ flip i (places l)
+      go (yes d) = subst P (sym (e ∙ ap (λ (t : Bool). cond t i (i + 1)) (lt-ltb i 543 d))) (flip-protected i d)
+      go (no d) = subst P (sym (e ∙ ap (λ (t : Bool). cond t i (i + 1)) (le-ltb i 543 (omega arith)))) (flip-hamming i (omega arith) h)
 
   pub flip-none : (i : ℕ) → 553 ≤ i → places l ≡ flip i (places l)
   flip-none i h = sym (flip-past i (places l) (omega (arith, length-places l whole, places_is)))
@@ -330,10 +356,6 @@ pub length-line_of : (w : Word) → length (line_of w) ≡ 70
 unfolding line_of
 length-line_of w = length-bytes_of line_bytes (take protected_places w ++ (false ∷ drop protected_places w)) ∙ bytes-is
 
-pub bytes-line_of : (w : Word) → Bytes (line_of w)
-unfolding line_of
-bytes-line_of w = bytes-bytes_of line_bytes (take protected_places w ++ (false ∷ drop protected_places w))
-
 module _ (w : Word) (least : 543 ≤ length w) (most : length w ≤ 553) where
   front : Word
   front = take protected_places w
@@ -358,15 +380,7 @@ module _ (w : Word) (least : 543 ≤ length w) (most : length w ≤ 553) where
           ∙ ap₂ ◌+◌ (length-append front (false ∷ drop protected_places w)) (length-replicate (559 - length w) false)
           ∙ omega (arith, length-front-w, length-drop protected_places w, protected-is, bytes-is)
 
-  -- the protected places come back
-  pub protected-line_of : protected (places (line_of w)) ≡ take protected_places w
-  unfolding front
-  protected-line_of =
-      protected-bits (line_of w) (length-line_of w)
-      ∙ ap (take protected_places) bits-line_of
-      ∙ take_at front (false ∷ (drop protected_places w ++ zeros (559 - length w))) protected_places length-front-w
-
-  -- and so do all places, where there are 553
+  -- all places come back, where there are 553
   pub places-line_of : length w ≡ line_places → places (line_of w) ≡ w
   unfolding places front
   places-line_of e =

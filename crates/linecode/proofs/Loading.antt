@@ -46,26 +46,23 @@ copied-over d s l n i e f h k q =
     ∙ append-nil s
 
 -- n is the slice's length or 70, whichever is less
-pub copied : (s : List ℕ) (n : ℕ) → n ≡ min (length s) 70 → paste blank 0 s n ≡ loaded s
+pub copied : (s : List ℕ) (n : ℕ) → n ≡ min (length s) 70 → take n s ++ drop n blank ≡ loaded s
 unfolding loaded
 copied s n e = go (dec_le 70 (length s))
   where
-    start : paste blank 0 s n ≡ take n s ++ drop n blank
-    start = ap (λ (k : ℕ). take n s ++ drop k blank) (zero-add n)
-
     seventy : take line_bytes (s ++ replicate line_bytes 0) ≡ take 70 (s ++ blank)
     seventy = ap (λ (k : ℕ). take k (s ++ replicate k 0)) bytes-is
 
-    go : Dec (70 ≤ length s) → paste blank 0 s n ≡ take line_bytes (s ++ replicate line_bytes 0)
+    go : Dec (70 ≤ length s) → take n s ++ drop n blank ≡ take line_bytes (s ++ replicate line_bytes 0)
     go (yes h) =
         let m : n ≡ 70 = omega arith in
-        start ∙ ap (λ (k : ℕ). take k s ++ drop k blank) m
+        ap (λ (k : ℕ). take k s ++ drop k blank) m
         ∙ append-nil (take 70 s)
         ∙ sym (seventy ∙ take-append-le 70 s blank h)
     go (no h) =
         let m : n ≡ length s = omega arith in
         let k : 70 ≡ length s + (70 - length s) = omega arith in
-        start ∙ ap₂ ◌++◌ (take_all n s (omega arith)) (drop-replicate n 70 ∙ ap (λ (j : ℕ). replicate {A = ℕ} (70 - j) 0) m)
+        ap₂ ◌++◌ (take_all n s (omega arith)) (drop-replicate n 70 ∙ ap (λ (j : ℕ). replicate {A = ℕ} (70 - j) 0) m)
         ∙ sym (seventy ∙ ap (λ (j : ℕ). take j (s ++ blank)) k
         ∙ take-append-add s blank (70 - length s)
         ∙ ap (λ (l : List ℕ). s ++ l) (take-replicate (70 - length s) 70 (omega arith)))

@@ -82,7 +82,7 @@ member-at n (m ∷ ms) (suc i) h e = go (eqb n m) (member-at n ms i (le_of_suc-l
     go true q = refl
     go false q = q
 
-no-power-of : (n k : ℕ) → T (not (member n hamming_columns) && ltb n 1024) → n ≡ 2 ^ k → ⊥
+pub no-power-of : (n k : ℕ) → T (not (member n hamming_columns) && ltb n 1024) → n ≡ 2 ^ k → ⊥
 no-power-of n k t e = go (dec_lt k 10)
   where
     p : T (not (member n hamming_columns)) × T (ltb n 1024)

@@ -1,6 +1,6 @@
 -- The syndrome: its two parts, and the place that it names.
 use mathlib.Core.Path.{◌≡◌, refl, sym, ap, ap₂, ◌∙◌, subst}
-use mathlib.Core.Bool.{Bool, true, false, ◌&&◌, cond}
+use mathlib.Core.Bool.{Bool, true, false, not, ◌&&◌, cond}
 use mathlib.Core.Logic.{◌⊎◌, inl, inr}
 use mathlib.Core.List.{List, [], ◌∷◌, ◌++◌, map}
 use Prim.Native.Nat.{ℕ, zero, suc, ◌+◌, ◌-◌, ◌*◌, ◌^◌, ◌≤◌, ◌<◌}
@@ -18,12 +18,19 @@ use Rattle.gf2.specs.Check.{column_sum}
 use Rattle.gf2.proofs.Hamming.{column_sum-append, column_sum-flip}
 use Rattle.linecode.specs.Places.{protected_places, hamming_places, line_places}
 use Rattle.linecode.specs.Code.{protected, stored_hamming, positions, hamming_columns, columns, up_from, syndrome}
-use Rattle.linecode.specs.Code.{index_of, naming, answer_to}
+use Rattle.linecode.specs.Code.{index_of, naming, answer_to, member, PositionTable}
 use Rattle.linecode.specs.declared.hamming.Answer.{Answer}
 use Rattle.linecode.specs.declared.hamming.Answer.TheVariants.{None, Hamming, Protected}
 use Rattle.linecode.proofs.Line.{protected-is, places_is}
-use Rattle.linecode.proofs.IndexOf.{index_of-le, index_of-found, index_of-absent, index_of-left, index_of-right}
-use Rattle.linecode.proofs.Positions.{length-positions, length-hamming_columns, column-power, all_below, and_parts}
+use Rattle.linecode.proofs.IndexOf.{index_of-le, index_of-found, index_of-absent}
+use lib.Count.{ones}
+use Rattle.std.specs.Int.{is_power_of_two}
+use Rattle.std.specs.Int.Count.{count_trailing_zeros}
+use Rattle.std.specs.List.Sorted.{IsBinarySearchResult}
+use Rattle.std.specs.Ordering.{nat_cmp}
+use Rattle.std.proofs.Common.{Ok, Err}
+use Rattle.std.proofs.lemmas.List.Sorted.{searched}
+use Rattle.linecode.proofs.Positions.{length-positions, length-hamming_columns, length-table, column-power, all_below, no-power-of, and_parts}
 
 -- ---- the powers of two at set places make the number of the word
 power-sum : (i n : ℕ) (w : Word) → length w ≤ n → column_sum (map (λ k. 2 ^ k) (up_from i n)) w ≡ number w * 2 ^ i
@@ -199,24 +206,66 @@ none-exactly s =
     go (suc s) q (yes h) = let z : ⊥ = omega (arith, column-held (suc s) (omega arith) h) in absurd z
     go (suc s) q (no h) = inr (omega arith)
 
--- ---- what the code finds: a place of the table, or none there and no power of two
-pub answer-protected : (s i : ℕ) → i ≡ index_of s positions → i < 543 → answer_to s ≡ Protected i
-unfolding answer_to columns
-answer-protected s i e h =
-    let l : index_of s positions < length positions = omega (arith, length-positions) in
-    ap naming (index_of-left s positions hamming_columns l ∙ sym e) ∙ naming-protected i h
+-- ---- what the code finds: a place of the table, or none there; then a power of two, whose exponent is told by its lowest set bit, or none
+told : ℕ → Bool
+told s = let k = count_trailing_zeros 16 s in cond (is_power_of_two s) (eqb (2 ^ k) s && ltb k 10) (not (member s hamming_columns) && ltb s 1024)
 
-pub answer-none : (s i : ℕ) → i ≡ index_of s positions → 543 ≤ i → ((j : ℕ) → j < 10 → 2 ^ j ≡ s → ⊥) → answer_to s ≡ None
-unfolding answer_to columns
-answer-none s i e h none =
-    let l : index_of s positions ≡ length positions = omega (arith, index_of-le s positions, length-positions) in
-    ap naming
-    (index_of-right s positions hamming_columns l
-    ∙ ap₂ ◌+◌ length-positions (index_of-absent s hamming_columns none' ∙ length-hamming_columns))
-    ∙ naming-none
-  where
-    none' : (j : ℕ) → j < length hamming_columns → get_or hamming_columns j 0 ≡ s → ⊥
-    none' j h q = let l : j < 10 = omega (arith, length-hamming_columns) in none j l (sym (column-power j l) ∙ q)
+all_told : T (every told 554)
+unfolding told hamming_columns hamming_places ones count_trailing_zeros
+all_told = tt
+
+pub told-power : (s : ℕ) → s ≤ 553 → is_power_of_two s ≡ true → answer_to s ≡ Hamming (count_trailing_zeros 16 s)
+unfolding told
+told-power s h e =
+    let k = count_trailing_zeros 16 s in
+    let t : T (eqb (2 ^ k) s && ltb k 10) =
+    subst (λ (b : Bool). T (cond b (eqb (2 ^ k) s && ltb k 10) (not (member s hamming_columns) && ltb s 1024))) e (every-at told 554 s all_told (omega arith)) in
+    let p = and_parts (eqb (2 ^ k) s) (ltb k 10) t in
+    ap answer_to (sym (eqb→eq (2 ^ k) s p.0)) ∙ power-named k (ltb→lt k 10 p.1)
+
+told-none : (s : ℕ) → s ≤ 553 → is_power_of_two s ≡ false → (k : ℕ) → k < 10 → 2 ^ k ≡ s → ⊥
+unfolding told
+told-none s h e k l q =
+    let i = count_trailing_zeros 16 s in
+    let t : T (not (member s hamming_columns) && ltb s 1024) =
+    subst (λ (b : Bool). T (cond b (eqb (2 ^ i) s && ltb i 10) (not (member s hamming_columns) && ltb s 1024))) e (every-at told 554 s all_told (omega arith)) in
+    no-power-of s k t (sym q)
+
+module _ (table : List ℕ) (rule : PositionTable table) (s : ℕ) where
+  rises : (i j : ℕ) → i ≤ j → j < length table → get_or table i 0 ≤ get_or table j 0
+  rises i j h l = go (dec_lt i j)
+    where
+      go : Dec (i < j) → get_or table i 0 ≤ get_or table j 0
+      go (yes d) = omega (arith, rule.ascending i j d l)
+      go (no d) = let e : i ≡ j = omega arith in subst (λ (k : ℕ). get_or table i 0 ≤ get_or table k 0) e (omega arith)
+
+  pub found-place : (i : ℕ) → IsBinarySearchResult (λ y. nat_cmp y s) table (Ok i) → answer_to s ≡ Protected i
+  found-place i h =
+      let at = searched table s (Ok i) h rises in
+      ap answer_to (sym (ap (λ (t : List ℕ). get_or t i 0) (sym rule.all) ∙ at.1))
+      ∙ position-named i (omega (arith, at.0, length-table table rule))
+
+  -- every position is below the syndrome or above it
+  missed : (i : ℕ) → IsBinarySearchResult (λ y. nat_cmp y s) table (Err i) → (j : ℕ) → j < 543 → get_or positions j 0 ≡ s → ⊥
+  missed i h j l e = go (dec_lt j i)
+    where
+      at : (i ≤ length table) × ((k : ℕ) → k < i → get_or table k 0 < s) × ((k : ℕ) → i ≤ k → k < length table → s < get_or table k 0)
+      at = searched table s (Err i) h rises
+
+      there : get_or table j 0 ≡ s
+      there = ap (λ (t : List ℕ). get_or t j 0) rule.all ∙ e
+
+      go : Dec (j < i) → ⊥
+      go (yes d) = omega (arith, at.1 j d, there)
+      go (no d) = omega (arith, at.2 j (omega arith) (omega (arith, length-table table rule)), there)
+
+  pub found-none : (i : ℕ) → IsBinarySearchResult (λ y. nat_cmp y s) table (Err i) → s ≤ 553 → is_power_of_two s ≡ false
+      → answer_to s ≡ None
+  found-none i h small q =
+      by-case s (λ (a : Answer). a ≡ None)
+      (λ j l e. absurd (missed i h j l e))
+      (λ k l e. absurd (told-none s small q k l e))
+      (λ e. refl)
 
 -- a protected place turned over adds its position to the syndrome
 pub column-position : (w : Word) (i : ℕ) → length w ≡ line_places → i < 543

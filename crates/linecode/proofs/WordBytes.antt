@@ -1,53 +1,34 @@
--- Bytes as a word: shifts and ors of bytes, and the bytes of a line that are read one after the other.
+-- Bytes as a word, and the bytes of a line that are read one after the other.
 use mathlib.Core.Path.{◌≡◌, refl, sym, ap, ap₂, ◌∙◌, subst}
 use mathlib.Core.Bool.{true, false}
 use mathlib.Core.List.{List, [], ◌∷◌, ◌++◌, append_assoc}
-use Prim.Native.Nat.{ℕ, zero, suc, ◌+◌, ◌*◌, ◌%◌, ◌^◌, ◌≤◌, ◌<◌}
-use native.Mathlib.Nat.{lt_of_lt_of_le, le_of_suc-le-suc, not-suc-le-zero}
+use Prim.Native.Nat.{ℕ, zero, suc, ◌+◌, ◌*◌, ◌≤◌, ◌<◌}
+use native.Mathlib.Nat.{le_of_suc-le-suc, not-suc-le-zero}
 use native.Mathlib.Numerals.{add-one}
 use native.Mathlib.Omega.{arith}
-use lib.Bits.{bit_or, bit_xor, or_lt, or_shifted_r}
+use lib.Bits.{bit_xor}
 use lib.ListN.{length, take, drop, get_or, length-drop}
-use lib.Pow.{pow-add, pow_mono, shl_lt, shl_exact}
 use lib.Seq.{drop-cons, drop-drop, take-add, length-take-le}
 use Rattle.gf2.specs.Word.{Word, digits, number}
 use Rattle.gf2.specs.Check.{column_sum}
 use Rattle.gf2.proofs.Digits.{number_small, number_append, digits_number}
 use Rattle.linecode.specs.Places.{protected_places, bits_of, places}
 use Rattle.linecode.specs.Code.{protected}
-use Rattle.linecode.proofs.Bytes.{Bytes, length-bits_of, bits_of-append, take-bits_of}
+use Rattle.std.specs.Int.{w32, w64, from_le_bytes}
+use Rattle.linecode.proofs.Bytes.{Bytes, byte_at, length-bits_of, bits_of-append, take-bits_of}
 use Rattle.linecode.proofs.Line.{protected-is, protected-bits}
-
--- bytes put above k bits, one after the other, in a word of w bits
-abbrev pub or_bytes : ℕ → ℕ → ℕ → List ℕ → ℕ
-or_bytes w k n [] = n
-or_bytes w k n (b ∷ l) = or_bytes w (8 + k) (bit_or n (b * 2 ^ k % 2 ^ w)) l
 
 pub number-bytes : (b : ℕ) (l : List ℕ) → b < 256 → number (bits_of (b ∷ l)) ≡ b + 256 * number (bits_of l)
 number-bytes b l h = number_append (digits 8 b) (bits_of l) ∙ ap (λ (n : ℕ). n + 256 * number (bits_of l)) (number_small 8 b h)
 
-or_bytes_lem : (w k n : ℕ) (l : List ℕ) → n < 2 ^ k → Bytes l → k + 8 * length l ≤ w → or_bytes w k n l ≡ n + 2 ^ k * number (bits_of l)
-or_bytes_lem w k n [] h g f = omega arith
-or_bytes_lem w k n (b ∷ l) h g f =
-    or_bytes_lem w (8 + k) (bit_or n (b * 2 ^ k % 2 ^ w)) l below g.1 (omega arith)
-    ∙ ap₂ (λ (a p : ℕ). a + p * number (bits_of l)) (ap (bit_or n) exact ∙ or_shifted_r b k n h) (pow-add 2 8 k)
-    ∙ sum (2 ^ k) (number (bits_of l))
-    ∙ ap (λ (m : ℕ). n + 2 ^ k * m) (sym (number-bytes b l g.0))
-  where
-    exact : b * 2 ^ k % 2 ^ w ≡ b * 2 ^ k
-    exact = shl_exact 8 k w g.0 (omega arith)
+-- bytes as a number, the first byte lowest
+abbrev value_of : List ℕ → ℕ
+value_of [] = 0
+value_of (b ∷ l) = b + 256 * value_of l
 
-    below : bit_or n (b * 2 ^ k % 2 ^ w) < 2 ^ (8 + k)
-    below =
-        or_lt (8 + k) n (b * 2 ^ k % 2 ^ w) (lt_of_lt_of_le h (pow_mono (omega arith)))
-        (subst (λ (m : ℕ). m < 2 ^ (8 + k)) (sym exact) (shl_lt 8 k g.0))
-
-    sum : (p m : ℕ) → b * p + n + 256 * p * m ≡ n + p * (b + 256 * m)
-    sum p m = omega arith
-
--- a first byte and others above it
-pub or-all : (w a : ℕ) (l : List ℕ) → a < 256 → Bytes l → 8 + 8 * length l ≤ w → or_bytes w 8 a l ≡ number (bits_of (a ∷ l))
-or-all w a l h g f = or_bytes_lem w 8 a l h g f ∙ sym (number-bytes a l h)
+number-value : (l : List ℕ) → Bytes l → number (bits_of l) ≡ value_of l
+number-value [] p = refl
+number-value (b ∷ l) p = number-bytes b l p.0 ∙ ap (λ (n : ℕ). b + 256 * n) (number-value l p.1)
 
 -- n bytes from byte i + k on, as they are read
 abbrev pub read_from : ℕ → ℕ → ℕ → List ℕ → List ℕ
@@ -68,6 +49,21 @@ pub read_all : (n i : ℕ) (l : List ℕ) → i + 1 + n ≤ length l → take (s
 read_all n i l h =
     ap (take (suc n)) (drop-cons l i 0 (omega arith))
     ∙ ap (λ (t : List ℕ). get_or l i 0 ∷ t) (ap (λ (j : ℕ). take n (drop j l)) (sym (add-one i)) ∙ read-from n 1 i l h)
+
+-- four bytes of a line as the library reads them, and eight
+module _ (i : ℕ) (l : List ℕ) (p : Bytes l) where
+  at : (k : ℕ) → get_or l (i + k) 0 < 256
+  at k = byte_at l (i + k) p
+
+  pub half-read : i + 4 ≤ length l → from_le_bytes w32 (take 4 (drop i l)) ≡ number (bits_of (take 4 (drop i l)))
+  half-read h =
+      subst (λ (x : List ℕ). from_le_bytes w32 x ≡ number (bits_of x)) (sym (read_all 3 i l (omega arith)))
+      (omega (arith, number-value (get_or l i 0 ∷ read_from 3 1 i l) (byte_at l i p, (at 1, (at 2, (at 3, tt))))))
+
+  pub word-read : i + 8 ≤ length l → from_le_bytes w64 (take 8 (drop i l)) ≡ number (bits_of (take 8 (drop i l)))
+  word-read h =
+      subst (λ (x : List ℕ). from_le_bytes w64 x ≡ number (bits_of x)) (sym (read_all 7 i l (omega arith)))
+      (omega (arith, number-value (get_or l i 0 ∷ read_from 7 1 i l) (byte_at l i p, (at 1, (at 2, (at 3, (at 4, (at 5, (at 6, (at 7, tt))))))))))
 
 -- ---- the bits of a word that is made of bytes are those of the bytes
 digits-bytes : (x : List ℕ) → digits (8 * length x) (number (bits_of x)) ≡ bits_of x
@@ -99,12 +95,12 @@ module _ (l : List ℕ) (whole : length l ≡ 70) where
       (sym (bits_of-append (take 8 (drop i l)) (take m (drop 8 (drop i l))))
       ∙ ap bits_of (sym (take-add 8 m (drop i l))))
 
-  -- the data before four bytes as they are read
-  pub last-half : (d : ℕ) → d ≡ number (bits_of (get_or l 64 0 ∷ get_or l 65 0 ∷ get_or l 66 0 ∷ get_or l 67 0 ∷ []))
+  -- the data before four bytes
+  pub last-half : (d : ℕ) → d ≡ number (bits_of (take 4 (drop 64 l)))
       → bits_of (take 64 l) ++ digits 32 d ≡ bits_of (take 68 l)
   last-half d e =
       ap (λ (w : Word). bits_of (take 64 l) ++ w)
-      (bytes_word 4 64 d (omega arith) (e ∙ ap (λ (x : List ℕ). number (bits_of x)) (sym (read_all 3 64 l (omega arith)))))
+      (bytes_word 4 64 d (omega arith) e)
       ∙ sym (ap bits_of (take-add 64 4 l) ∙ bits_of-append (take 64 l) (take 4 (drop 64 l)))
 
   pub protected-sum : (cs : List ℕ) → length cs ≡ 543 → column_sum cs (bits_of (take 68 l)) ≡ column_sum cs (protected (places l))

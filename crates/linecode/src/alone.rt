@@ -8,8 +8,9 @@ ghost use Rattle.linecode.specs.Reading.{mark_of};
 
 use crate::hamming;
 
-// A line as it reads alone, and its mark: 0 correct as found, 1 accepted and rewritten somewhere, 4 faulty.
-#[derive(Drop)]
+// A line as it reads alone, and its mark: 0 correct as found, 1 accepted and rewritten somewhere, 4 faulty. A mark is a byte, and no enum:
+// C reads it, and the definitions and theorems name the number.
+#[derive(Clone, Copy, PartialEq, Eq)]
 pub struct Reading {
     pub line: [u8; 70],
     pub mark: u8,
@@ -21,8 +22,5 @@ pub fn mark_of(line: [u8; 70], sum: u16) -> u8
     requires { sum ≡ column_sum positions (protected (places line)) }
     ensures { result ≡ mark_of (places line) (with_hamming (protected (places line))) }
 {
-    if hamming::stored(line) == sum {
-        return 0;
-    }
-    1
+    if hamming::stored(line) == sum { 0 } else { 1 }
 }

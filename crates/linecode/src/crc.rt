@@ -8,8 +8,5 @@ ghost use Rattle.linecode.specs.Code.{stored_crc};
 pub fn stored(line: [u8; 70]) -> u32
     ensures { result ≡ number (stored_crc (places line)) }
 {
-    (line[64] as u32)
-        + 256 * (line[65] as u32)
-        + 65536 * (line[66] as u32)
-        + 16777216 * ((line[67] % 128) as u32)
+    u32::from_le_bytes([line[64], line[65], line[66], line[67] % 128])
 }

@@ -5,8 +5,8 @@ ghost use Rattle.gf2.specs.Check.{column_sum};
 ghost use Rattle.linecode.specs.Places.{places, line_of};
 ghost use Rattle.linecode.specs.Code.{protected, positions, PositionTable, with_hamming, stored_hamming, index_of, answer_to};
 
-// The position of each protected place: ascending from 3, without the powers of two.
-const POSITIONS: [u16; 543] = [
+// The position of each protected place: ascending from 3, without the powers of two. Read-only data, which each search reads where it stands.
+static POSITIONS: [u16; 543] = [
     3, 5, 6, 7, 9, 10, 11, 12, 13, 14, 15, 17, 18, 19, 20, 21, 22, 23, 24, 25, 26, 27, 28, 29, 30,
     31, 33, 34, 35, 36, 37, 38, 39, 40, 41, 42, 43, 44, 45, 46, 47, 48, 49, 50, 51, 52, 53, 54, 55,
     56, 57, 58, 59, 60, 61, 62, 63, 65, 66, 67, 68, 69, 70, 71, 72, 73, 74, 75, 76, 77, 78, 79, 80,
@@ -37,8 +37,9 @@ const POSITIONS: [u16; 543] = [
     544, 545, 546, 547, 548, 549, 550, 551, 552, 553,
 ];
 
-// What a syndrome answers: none, Hamming bit k, or protected place i.
-#[derive(Drop)]
+// What a syndrome answers: none, Hamming bit k, or protected place i. Document 01 names this form, an enum that a let .. else takes apart
+// before the flip: so it is no Option of a place.
+#[derive(Clone, Copy, PartialEq, Eq)]
 pub enum Answer {
     None,
     Hamming(usize),
@@ -49,27 +50,7 @@ pub enum Answer {
 pub fn stored(line: [u8; 70]) -> u16
     ensures { result ≡ number (stored_hamming (places line)) }
 {
-    (line[68] as u16) + 256 * ((line[69] % 4) as u16)
-}
-
-// Where a syndrome stands in the table of positions, by halving what is left to search; 543 where it does not.
-fn place_in(table: &[u16; 543], syndrome: u16) -> usize
-    requires { PositionTable table.now }
-    ensures { result ≡ index_of syndrome positions }
-{
-    let mut first: usize = 0;
-    let mut left: usize = 543;
-    while 1 < left {
-        let half = left / 2;
-        if table[first + half] <= syndrome {
-            first += half;
-        }
-        left -= half;
-    }
-    if table[first] == syndrome {
-        return first;
-    }
-    543
+    u16::from_le_bytes([line[68], line[69] % 4])
 }
 
 // What a syndrome answers: the protected place whose position it is, the Hamming bit whose power of two it is, or none.
@@ -79,31 +60,21 @@ pub fn answer_to(syndrome: u16) -> Answer
     if 553 < syndrome {
         return Answer::None;
     }
-    let table = POSITIONS;
-    let place = place_in(&table, syndrome);
-    if place < 543 {
-        return Answer::Protected(place);
+    match POSITIONS.binary_search(&syndrome) {
+        Ok(i) => Answer::Protected(i),
+        Err(_) if syndrome.is_power_of_two() => Answer::Hamming(syndrome.trailing_zeros() as usize),
+        Err(_) => Answer::None,
     }
-    let mut power: u16 = 1;
-    let mut k: usize = 0;
-    while k < 10 {
-        if power == syndrome {
-            return Answer::Hamming(k);
-        }
-        power = 2 * power;
-        k += 1;
-    }
-    Answer::None
 }
 
 // The protected places with the sum of their positions as Hamming bits, spare bits 0. Public for the crates above, which have the sum.
+// Line and sum are no struct: it would be made where it is used, and the clause would then stand there.
 pub fn with_bits(line: [u8; 70], sum: u16) -> [u8; 70]
     requires { sum ≡ column_sum positions (protected (places line)) }
     ensures { result ≡ line_of (with_hamming (protected (places line))) }
 {
     let mut whole = line;
-    whole[67] = whole[67] % 128;
-    whole[68] = (sum % 256) as u8;
-    whole[69] = (sum / 256) as u8;
+    whole[67] %= 128;
+    [whole[68], whole[69]] = sum.to_le_bytes();
     whole
 }

@@ -1,5 +1,5 @@
 // The places of a line in its 70 bytes: spare bits, exclusive or, a place turned over.
-ghost use Rattle.std.specs.Prelude.{false, ◌≡◌, get_or};
+ghost use Rattle.std.specs.Prelude.{false, cond, nat_lt, ◌≡◌, ◌+◌, ◌<◌, get_or};
 ghost use Rattle.gf2.specs.Word.{◌⊕◌, flip};
 ghost use Rattle.linecode.specs.Places.{places, line_of, loaded, xor_bytes};
 
@@ -7,16 +7,9 @@ ghost use Rattle.linecode.specs.Places.{places, line_of, loaded, xor_bytes};
 pub fn load(s: &[u8]) -> [u8; 70]
     ensures { result ≡ loaded s.now }
 {
-    let mut end = s.len();
-    if 70 < end {
-        end = 70;
-    }
+    let n = s.len().min(70);
     let mut line = [0u8; 70];
-    let mut i = 0;
-    while i < end {
-        line[i] = s[i];
-        i += 1;
-    }
+    line[..n].copy_from_slice(&s[..n]);
     line
 }
 
@@ -25,8 +18,8 @@ pub fn clear_spare(line: [u8; 70]) -> [u8; 70]
     ensures { result ≡ line_of (places line) }
 {
     let mut cleared = line;
-    cleared[67] = cleared[67] % 128;
-    cleared[69] = cleared[69] % 4;
+    cleared[67] %= 128;
+    cleared[69] %= 4;
     cleared
 }
 
@@ -35,10 +28,8 @@ pub fn xor_bytes(a: [u8; 70], b: [u8; 70]) -> [u8; 70]
     ensures { result ≡ xor_bytes a b }
 {
     let mut sum = a;
-    let mut i = 0;
-    while i < 70 {
-        sum[i] = sum[i] ^ b[i];
-        i += 1;
+    for i in 0..70 {
+        sum[i] ^= b[i];
     }
     sum
 }
@@ -50,15 +41,21 @@ pub fn xor_lines(a: [u8; 70], b: [u8; 70]) -> [u8; 70]
     clear_spare(xor_bytes(a, b))
 }
 
+// The bit of a line's bytes at which place i stands: bit 543 is spare, so that the Hamming bits begin with a byte.
+fn bit_of(i: usize) -> usize
+    requires { i < 553 }
+    ensures { result ≡ cond (nat_lt i 543) i (i + 1) }
+{
+    if i < 543 { i } else { i + 1 }
+}
+
 // Whether place i is set; past the last place none is.
 pub fn is_set(line: [u8; 70], i: usize) -> bool
     ensures { result ≡ get_or (places line) i false }
 {
-    if i < 543 {
-        return (line[i / 8] >> (i % 8)) % 2 == 1;
-    }
     if i < 553 {
-        return (line[(i + 1) / 8] >> ((i + 1) % 8)) % 2 == 1;
+        let bit = bit_of(i);
+        return (line[bit / 8] >> (bit % 8)) % 2 == 1;
     }
     false
 }
@@ -68,12 +65,9 @@ pub fn flip_place(line: [u8; 70], i: usize) -> [u8; 70]
     ensures { result ≡ line_of (flip i (places line)) }
 {
     let mut flipped = line;
-    if i < 543 {
-        flipped[i / 8] = flipped[i / 8] ^ (1u8 << (i % 8));
-    } else {
-        if i < 553 {
-            flipped[(i + 1) / 8] = flipped[(i + 1) / 8] ^ (1u8 << ((i + 1) % 8));
-        }
+    if i < 553 {
+        let bit = bit_of(i);
+        flipped[bit / 8] ^= 1 << (bit % 8);
     }
     clear_spare(flipped)
 }

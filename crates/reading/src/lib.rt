@@ -8,9 +8,9 @@ ghost use Rattle.linecode.specs.Places.{places};
 ghost use Rattle.linecode.specs.Code.{protected, positions};
 ghost use Rattle.linecode.specs.Entry.{reading};
 ghost use Rattle.paper_order.specs.PaperOrder.{crc_matches};
-ghost use Rattle.line_table.specs.Table.{line_table};
 ghost use Rattle.sweep.specs.Sums.{both_sums};
 
+use line_table::LineTable;
 use linecode::alone::Reading;
 use linecode::hamming::Answer;
 use linecode::{alone, hamming, place};
@@ -18,8 +18,7 @@ use sweep::sums_of;
 
 // A line whose CRC does not match, with the sum of its positions: the corrector, then CRC and comparison once more. Where no protected
 // place is named, data and CRC stay as they are, and the second comparison would end as the first did.
-fn read_hurt(table: &[u64; 4096], line: [u8; 70], sum: u16) -> Reading
-    requires table { table.now ≡ line_table }
+fn read_hurt(table: &LineTable, line: [u8; 70], sum: u16) -> Reading
     requires hurt { crc_matches (places line) ≡ false }
     requires summed { sum ≡ column_sum positions (protected (places line)) }
     ensures { result ≡ reading line }
@@ -32,7 +31,8 @@ fn read_hurt(table: &[u64; 4096], line: [u8; 70], sum: u16) -> Reading
     };
     let flipped = place::flip_place(line, i);
     let again = sums_of(table, flipped);
-    if again < 65536 {
+    let matched = again < 65536;
+    if matched {
         return Reading {
             line: hamming::with_bits(flipped, (again % 65536) as u16),
             mark: 1,
@@ -44,9 +44,10 @@ fn read_hurt(table: &[u64; 4096], line: [u8; 70], sum: u16) -> Reading
     }
 }
 
-// A line whose sums are known, read alone: its CRC matches, or else the corrector.
-pub fn read_summed(table: &[u64; 4096], line: [u8; 70], sums: u32) -> Reading
-    requires { (table.now ≡ line_table) × (sums ≡ both_sums (places line)) }
+// A line whose sums are known, read alone: its CRC matches, or else the corrector. For the flag above the sum see `sweep::sums_in`. Line and
+// sums are no struct: sums are made of eight lines at a time, which stay in their buffer, and a struct would hold a copy of its line.
+pub fn read_summed(table: &LineTable, line: [u8; 70], sums: u32) -> Reading
+    requires { sums ≡ both_sums (places line) }
     ensures { result ≡ reading line }
 {
     if sums < 65536 {
@@ -60,8 +61,7 @@ pub fn read_summed(table: &[u64; 4096], line: [u8; 70], sums: u32) -> Reading
 }
 
 // A line read alone.
-pub fn read(table: &[u64; 4096], line: [u8; 70]) -> Reading
-    requires { table.now ≡ line_table }
+pub fn read(table: &LineTable, line: [u8; 70]) -> Reading
     ensures { result ≡ reading line }
 {
     read_summed(table, line, sums_of(table, line))
@@ -73,8 +73,6 @@ pub fn is_untouched(line: [u8; 70], sums: u32) -> bool
     requires { sums ≡ both_sums (places line) }
     ensures { result ≡ true → reading line ≡ record { line = line; mark = 0 } }
 {
-    if line[67] < 128 {
-        return sums == (line[68] as u32) + 256 * (line[69] as u32);
-    }
-    false
+    let clear = line[67] < 128;
+    clear && sums == u32::from(u16::from_le_bytes([line[68], line[69]]))
 }

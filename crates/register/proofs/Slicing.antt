@@ -75,6 +75,10 @@ abbrev pub times : ℕ → ℕ → ℕ
 times zero n = n
 times (suc k) n = times k (eight_steps n)
 
+pub times-lt : (k n : ℕ) → times (suc k) n < 2 ^ 31
+times-lt zero n = eight-lt n
+times-lt (suc k) n = times-lt k (eight_steps n)
+
 fed-lt : (r : ℕ) (bs : List ℕ) → r < 2 ^ 31 → fed r bs < 2 ^ 31
 fed-lt r [] h = h
 fed-lt r (b ∷ bs) h = fed-lt (next r b) bs (next-lt r b h)

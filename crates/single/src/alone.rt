@@ -21,12 +21,8 @@ fn with_checks(line: [u8; 70], check: u32, sum: u16) -> [u8; 70]
     ensures { result ≡ line_of (codeword (data_of (places line))) }
 {
     let mut whole = line;
-    whole[64] = (check % 256) as u8;
-    whole[65] = (check / 256 % 256) as u8;
-    whole[66] = (check / 65536 % 256) as u8;
-    whole[67] = (check / 16777216 % 256) as u8;
-    whole[68] = (sum % 256) as u8;
-    whole[69] = (sum / 256) as u8;
+    [whole[64], whole[65], whole[66], whole[67]] = check.to_le_bytes();
+    [whole[68], whole[69]] = sum.to_le_bytes();
     whole
 }
 
@@ -38,7 +34,8 @@ pub fn rewrite(line: [u8; 70]) -> [u8; 70]
     with_checks(line, worked, wordsums::sum_with(line, worked))
 }
 
-// The corrector: the line with the place flipped that its syndrome names; where it names none, the line as it is.
+// The corrector: the line with the place flipped that its syndrome names; where it names none, the line as it is. Document 01 names let ..
+// else as the form for this place.
 fn corrected(line: [u8; 70], syndrome: u16) -> [u8; 70]
     requires { syndrome ≡ syndrome· (places line) }
     ensures { places result ≡ corrector (places line) }
@@ -55,7 +52,8 @@ fn corrected(line: [u8; 70], syndrome: u16) -> [u8; 70]
 
 // A line read alone, in the order of section III-C: the CRC from the data, compared with the stored one; where it differs the corrector,
 // then CRC and comparison once more. The sum of positions serves a line that matches as its Hamming bits, a hurt one for its syndrome; it
-// stands before the first comparison, where LLVM reads the line without a copy.
+// stands before the first comparison, where LLVM reads the line without a copy. `reading::read` has both sums at once from the lent table,
+// writes bits by `with_bits`, and ends where no protected place is named: of one generic body only the shape of three answers would be left.
 pub fn read_line(line: [u8; 70]) -> Reading
     ensures { result ≡ reading line }
 {
@@ -84,8 +82,5 @@ pub fn read_line(line: [u8; 70]) -> Reading
 pub fn is_correct(line: [u8; 70]) -> bool
     ensures { result ≡ is_correct (places line) }
 {
-    if crc::matches(line, crc::of_data(line)) {
-        return wordsums::position_sum(line) == hamming::stored(line);
-    }
-    false
+    crc::matches(line, crc::of_data(line)) && wordsums::position_sum(line) == hamming::stored(line)
 }

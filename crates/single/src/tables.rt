@@ -4,7 +4,7 @@ ghost use Rattle.std.specs.Prelude.{◌≡◌, [], ◌∷◌, ◌/◌, ◌%◌, 
 ghost use Rattle.register.specs.Slices.{after};
 ghost use Rattle.single.specs.Paired.{Paired};
 
-use register::words;
+use slice_table::entry;
 
 // The register after eight bytes, the four of x first, and in the upper half the register when eight more follow that are 0. Each table is
 // read at one place of the program, here, so that LLVM puts it there. The bytes of x, which the register waits for, come last, and in the
@@ -12,14 +12,15 @@ use register::words;
 fn eight(x: u32, a: u8, b: u8, c: u8, d: u8) -> u64
     ensures { Paired result (x % 256 ∷ x / 256 % 256 ∷ x / 65536 % 256 ∷ x / 16777216 % 256 ∷ a ∷ b ∷ c ∷ d ∷ []) }
 {
-    slices_low::pair_0((d as usize) | 256)
-        ^ slices_low::pair_1((c as usize) | 256)
-        ^ slices_low::pair_2((b as usize) | 256)
-        ^ slices_low::pair_3((a as usize) | 256)
-        ^ slices_high::pair_7(((x % 256) as usize) | 256)
-        ^ slices_high::pair_6(((x / 256 % 256) as usize) | 256)
-        ^ slices_high::pair_5(((x / 65536 % 256) as usize) | 256)
-        ^ slices_high::pair_4(((x / 16777216 % 256) as usize) | 256)
+    let [x0, x1, x2, x3] = x.to_le_bytes();
+    entry(0, d)
+        ^ entry(1, c)
+        ^ entry(2, b)
+        ^ entry(3, a)
+        ^ entry(7, x0)
+        ^ entry(6, x1)
+        ^ entry(5, x2)
+        ^ entry(4, x3)
 }
 
 // The register after a line's 64 data bytes. Of sixteen bytes the first eight meet the register, and what they leave
@@ -29,17 +30,16 @@ pub fn after_data(line: [u8; 70]) -> u32
 {
     let mut r: u32 = 0;
     let mut kept: u32 = 0;
-    let mut i = 0;
-    while i < 64 {
-        let x = r ^ words::half(line[i], line[i + 1], line[i + 2], line[i + 3]);
+    for k in 0..8 {
+        let i = 8 * k;
+        let x = r ^ u32::from_le_bytes([line[i], line[i + 1], line[i + 2], line[i + 3]]);
         let n = eight(x, line[i + 4], line[i + 5], line[i + 6], line[i + 7]);
-        if i % 16 == 0 {
+        if k % 2 == 0 {
             kept = (n / 4294967296) as u32;
             r = 0;
         } else {
             r = kept ^ ((n % 4294967296) as u32);
         }
-        i += 8;
     }
     r
 }

@@ -1,8 +1,9 @@
 -- Both sums of a line in one number, by whether its CRC matches.
-use mathlib.Core.Path.{◌≡◌, ap}
-use mathlib.Core.Bool.{Bool, true, false, cond}
-use Prim.Native.Nat.{ℕ, ◌+◌}
+use mathlib.Core.Path.{◌≡◌, sym, ap}
+use mathlib.Core.Bool.{Bool, true, false, not, cond}
+use Prim.Native.Nat.{ℕ, ◌+◌, ◌*◌, ◌<◌}
 use native.Mathlib.Omega.{arith}
+use Rattle.std.specs.Int.{from_bool}
 use Rattle.gf2.specs.Word.{Word}
 use Rattle.gf2.specs.Check.{column_sum}
 use Rattle.linecode.specs.Code.{positions, protected}
@@ -13,8 +14,12 @@ pub sums-when : (w : Word) (b : Bool) → crc_matches w ≡ b → both_sums w �
 unfolding both_sums
 sums-when w b e = ap (λ (t : Bool). column_sum positions (protected w) + cond t 0 65536) e
 
-pub matched-sums : (w : Word) (p : ℕ) → crc_matches w ≡ true → p ≡ column_sum positions (protected w) → p ≡ both_sums w
-matched-sums w p q e = let whole = sums-when w true q in omega arith
+-- as the code makes it: the flag above the sum
+pub flagged : (w : Word) (p f : ℕ) (b : Bool) → b ≡ crc_matches w → p ≡ column_sum positions (protected w) → f ≡ from_bool (not b)
+    → p + 65536 * f ≡ both_sums w
+flagged w p f true e q h = let whole = sums-when w true (sym e) in omega arith
+flagged w p f false e q h = let whole = sums-when w false (sym e) in omega arith
 
-pub missed-sums : (w : Word) (p : ℕ) → crc_matches w ≡ false → p ≡ column_sum positions (protected w) → 65536 + p ≡ both_sums w
-missed-sums w p q e = let whole = sums-when w false q in omega arith
+pub flag-small : (f : ℕ) (b : Bool) → f ≡ from_bool b → f < 2
+flag-small f false e = omega arith
+flag-small f true e = omega arith

@@ -4,17 +4,17 @@ use mathlib.Core.List.{List, [], ◌∷◌, ◌++◌, map, append-nil}
 use Prim.Native.Nat.{ℕ, zero, suc, ◌+◌, ◌-◌, ◌*◌, ◌/◌, ◌%◌, ◌^◌, ◌≤◌, ◌<◌}
 use native.Mathlib.Nat.{le_of_suc-le-suc, not-suc-le-zero, zero-add}
 use native.Mathlib.Omega.{arith}
-use lib.Bits.{bit_xor, xor_comm, xor_zero_r}
-use lib.ListN.{length, drop, get_or, length-map, length-append}
+use lib.Bits.{bit_xor, xor_comm, xor_zero_l, xor_zero_r}
+use lib.ListN.{length, drop, get_or, length-map, length-append, length-drop}
 use lib.Pow.{shr-shr}
-use lib.Seq.{drop-drop}
+use lib.Seq.{drop-drop, drop-cons}
 use Rattle.gf2.specs.Word.{Word, digits}
 use Rattle.gf2.specs.Check.{column_sum}
 use Rattle.gf2.specs.Generator.{generator, generator_polynomial}
 use Rattle.gf2.proofs.Digits.{length_digits, digits_mod, digits-add}
 use Rattle.register.specs.Slices.{up_from, eight_steps, slices_from, slice_table, after}
 use Rattle.register.proofs.Bytes.{Bytes}
-use Rattle.register.proofs.Slicing.{eight-lt, times, late, after-lt, after-append, after-added, after-zero, after-apart}
+use Rattle.register.proofs.Slicing.{times, times-lt, late, after-lt, after-append, after-added, after-zero, after-apart}
 use Rattle.register.proofs.Additive.{add-shr, add-mod, additive-late}
 use Rattle.register.proofs.TableRule.{get_or-up_from, get_d_map, length-up_from, entry_at, entry_of}
 use Rattle.linecode.specs.Places.{bits_of}
@@ -67,10 +67,6 @@ entry-parts k b h j =
 
     byte : (k b : ℕ) → b < 256 → (256 * k + b) % 256 ≡ b
     byte k b j = omega arith
-
-times-lt : (k n : ℕ) → times (suc k) n < 2 ^ 31
-times-lt zero n = eight-lt n
-times-lt (suc k) n = times-lt k (eight_steps n)
 
 low_part : (n m : ℕ) → n < 2 ^ 31 → (n + 2 ^ 32 * m) % 2 ^ 32 ≡ n
 low_part n m h = omega arith
@@ -140,6 +136,31 @@ block-summed table e bs h p =
   where
     room : (k : ℕ) → 0 + k < 16 → k < 16
     room k i = omega arith
+
+-- a turn of the loop over them, from the last: k bytes are added
+pub late-turn : (table bytes : List ℕ) (k n : ℕ) → length bytes ≡ 16 → k < 16 → n ≡ late (entry_of table) (drop (16 - k) bytes)
+    → bit_xor n (get_or table (256 * k + get_or bytes (15 - k) 0) 0) ≡ late (entry_of table) (drop (16 - (k + 1)) bytes)
+late-turn table bytes k n e h q =
+    ap (λ (m : ℕ). bit_xor m (get_or table (256 * k + get_or bytes (15 - k) 0) 0)) q
+    ∙ sym (ap (late (entry_of table)) next ∙ more (get_or bytes (15 - k) 0) (drop (16 - k) bytes) (omega (arith, length-drop (16 - k) bytes)))
+  where
+    here : 16 - (k + 1) ≡ 15 - k
+    here = omega arith
+
+    after-here : suc (15 - k) ≡ 16 - k
+    after-here = omega arith
+
+    next : drop (16 - (k + 1)) bytes ≡ get_or bytes (15 - k) 0 ∷ drop (16 - k) bytes
+    next =
+        ap (λ (i : ℕ). drop i bytes) here
+        ∙ drop-cons bytes (15 - k) 0 (omega arith)
+        ∙ ap (λ (i : ℕ). get_or bytes (15 - k) 0 ∷ drop i bytes) after-here
+
+    more : (b : ℕ) (bs : List ℕ) → length bs ≡ k → late (entry_of table) (b ∷ bs) ≡ bit_xor (late (entry_of table) bs) (get_or table (256 * k + b) 0)
+    more b [] l =
+        let same : b ≡ 256 * k + b = omega arith in
+        ap (λ (i : ℕ). get_or table i 0) same ∙ sym (xor_zero_l (get_or table (256 * k + b) 0))
+    more b (c ∷ bs) l = ap (λ (j : ℕ). bit_xor (late (entry_of table) (c ∷ bs)) (get_or table (256 * j + b) 0)) l
 
 -- ---- a register that sixteen bytes follow
 abbrev zeros12 : List ℕ

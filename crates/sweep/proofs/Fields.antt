@@ -21,7 +21,13 @@ use Rattle.linecode.proofs.Bytes.{Bytes, length-bits_of, bits_of-append}
 use Rattle.linecode.proofs.Line.{data_of-line}
 use Rattle.linecode.proofs.Stores.{length-stored_crc, protected-parts, stored_crc-number}
 use Rattle.line_table.specs.Table.{field, fields}
-use Rattle.sweep.specs.Sums.{at_first, at_second, at_third, at_fourth, at_last}
+use Rattle.std.specs.Int.{w32, from_le_bytes}
+use Rattle.register.specs.Slices.{after}
+use Rattle.linecode.proofs.Line.{length-places}
+use Rattle.linecode.proofs.CrcRegister.{crc-after}
+use Rattle.paper_order.specs.PaperOrder.{crc_matches}
+use Rattle.paper_order.proofs.Matching.{matches-numbers}
+use Rattle.sweep.specs.Sums.{Summed, at_first, at_second, at_third, at_fourth, at_last}
 use Rattle.sweep.proofs.Columns.{add-and, add-xor, additive-sum, sum_first}
 use Rattle.line_table.proofs.TableRule.{field_numbers, fields-are}
 
@@ -128,7 +134,7 @@ module _ (l : List ℕ) (whole : length l ≡ 70) (bytes : Bytes l) where
       bits =
           ap₂ digits (sym (length-stored_crc l whole bytes)) e ∙ digits_number (stored_crc (places l))
 
-  pub positions-sum : (x0 x1 x2 x3 x4 c : ℕ)
+  positions-sum : (x0 x1 x2 x3 x4 c : ℕ)
       → x0 ≡ column_sum fields (bits_of (block_of 0)) → x1 ≡ column_sum fields (bits_of (block_of 16))
       → x2 ≡ column_sum fields (bits_of (block_of 32)) → x3 ≡ column_sum fields (bits_of (block_of 48))
       → c ≡ number (stored_crc (places l)) → x4 ≡ column_sum fields (digits 32 (2 * c))
@@ -146,21 +152,21 @@ module _ (l : List ℕ) (whole : length l ≡ 70) (bytes : Bytes l) where
       ∙ ap₂ column_sum (sym positions-from) (sym protected-blocks)
 
   -- the data are the four blocks
-  pub block-length : (i : ℕ) → i + 16 ≤ 70 → length (block_of i) ≡ 16
+  block-length : (i : ℕ) → i + 16 ≤ 70 → length (block_of i) ≡ 16
   block-length i h = length-take-le 16 (drop i l) (omega (arith, length-drop i l))
 
-  pub data-blocks : ((block_of 0 ++ block_of 16) ++ block_of 32) ++ block_of 48 ≡ take 64 l
+  data-blocks : ((block_of 0 ++ block_of 16) ++ block_of 32) ++ block_of 48 ≡ take 64 l
   data-blocks =
       sym (take-add 48 16 l
       ∙ ap (λ (t : List ℕ). t ++ block_of 48)
       (take-add 32 16 l ∙ ap (λ (t : List ℕ). t ++ block_of 32) (take-add 16 16 l)))
 
-  pub stored-lt : (c : ℕ) → c ≡ number (stored_crc (places l)) → c < 2 ^ 31
+  stored-lt : (c : ℕ) → c ≡ number (stored_crc (places l)) → c < 2 ^ 31
   stored-lt c e =
       subst (λ (n : ℕ). n < 2 ^ 31) (sym e)
       (subst (λ (k : ℕ). number (stored_crc (places l)) < 2 ^ k) (length-stored_crc l whole bytes) (number_lt (stored_crc (places l))))
 
-  pub stored-number : (r : ℕ) → r ≡ get_or l 64 0 + 256 * (get_or l 65 0 + 256 * (get_or l 66 0 + 256 * (get_or l 67 0 % 128)))
+  stored-number : (r : ℕ) → r ≡ get_or l 64 0 + 256 * (get_or l 65 0 + 256 * (get_or l 66 0 + 256 * (get_or l 67 0 % 128)))
       → r ≡ number (stored_crc (places l))
   stored-number r e = e ∙ apart-bytes (get_or l 64 0) (get_or l 65 0) (get_or l 66 0) (get_or l 67 0 % 128) ∙ stored_crc-number l whole bytes
     where
@@ -168,6 +174,39 @@ module _ (l : List ℕ) (whole : length l ≡ 70) (bytes : Bytes l) where
       apart-bytes a b c d = omega arith
 
 -- what a slice tells of its bytes
-pub all-bytes : (l : List ℕ) → ((i : ℕ) → get_or l i 0 < 256) → Bytes l
+all-bytes : (l : List ℕ) → ((i : ℕ) → get_or l i 0 < 256) → Bytes l
 all-bytes [] h = tt
 all-bytes (b ∷ l) h = (h 0, all-bytes l (λ i. h (suc i)))
+
+-- ---- what the numbers of a line tell, as the code works them out: a for its blocks, and the CRC that it holds
+module _ (l : List ℕ) (whole : length l ≡ 70) (fits : (i : ℕ) → get_or l i 0 < 256)
+    (a : List ℕ) (each : (k : ℕ) → k < 4 → Summed (take 16 (drop (16 * k) l)) (get_or a k 0))
+    (stored : ℕ) (held : stored ≡ from_le_bytes w32 (get_or l 64 0 ∷ get_or l 65 0 ∷ get_or l 66 0 ∷ get_or l 67 0 % 128 ∷ [])) where
+  bytes : Bytes l
+  bytes = all-bytes l fits
+
+  holds : stored ≡ number (stored_crc (places l))
+  holds = stored-number l whole bytes stored (held ∙ omega arith)
+
+  pub held-lt : stored < 2 ^ 31
+  held-lt = stored-lt l whole bytes stored holds
+
+  pub line-positions : (c p : ℕ) → c / 2 ^ 32 ≡ column_sum fields (digits 32 (2 * stored))
+      → p ≡ bit_xor (at_first (get_or a 0 0 / 2 ^ 32)) (bit_xor (at_second (get_or a 1 0 / 2 ^ 32)) (bit_xor (at_third (get_or a 2 0 / 2 ^ 32)) (bit_xor (at_fourth (get_or a 3 0 / 2 ^ 32)) (at_last (c / 2 ^ 32)))))
+      → p ≡ column_sum positions (protected (places l))
+  line-positions c p e q =
+      q ∙ positions-sum l whole bytes _ _ _ _ _ stored
+      (each 0 (omega arith)).above (each 1 (omega arith)).above (each 2 (omega arith)).above (each 3 (omega arith)).above holds e
+
+  pub line-matches : (r : ℕ)
+      → ((b0 b1 b2 b3 : List ℕ) → length b1 ≡ 16 → length b2 ≡ 16 → length b3 ≡ 16
+      → Summed b0 (get_or a 0 0) → Summed b1 (get_or a 1 0) → Summed b2 (get_or a 2 0) → Summed b3 (get_or a 3 0)
+      → r ≡ after 0 (((b0 ++ b1) ++ b2) ++ b3))
+      → eqb r stored ≡ crc_matches (places l)
+  line-matches r e =
+      matches-numbers (places l) r stored (length-places l whole)
+      (crc-after l r whole
+      (e _ _ _ _ (block-length l whole bytes 16 (omega arith)) (block-length l whole bytes 32 (omega arith)) (block-length l whole bytes 48 (omega arith))
+      (each 0 (omega arith)) (each 1 (omega arith)) (each 2 (omega arith)) (each 3 (omega arith))
+      ∙ ap (after 0) (data-blocks l whole bytes)))
+      holds

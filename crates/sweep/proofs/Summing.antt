@@ -1,25 +1,22 @@
 -- The loops over a line's four blocks, and over the lines of a piece.
 use mathlib.Core.Path.{◌≡◌, refl, sym, ap, ◌∙◌, subst}
-use mathlib.Core.List.{List, ◌∷◌}
-use Prim.Native.Nat.{ℕ, ◌+◌, ◌-◌, ◌*◌, ◌≤◌, ◌<◌}
+use mathlib.Core.List.{List}
+use Prim.Native.Nat.{ℕ, ◌+◌, ◌-◌, ◌*◌, ◌<◌}
 use native.Mathlib.Nat.{not-suc-le-zero}
 use native.Mathlib.Omega.{arith}
 use native.Mathlib.Decide.{dec_lt}
-use lib.ListN.{length, take, drop, get_or, set, replicate, length-set, length-drop}
-use lib.Seq.{get_or-set_same, get_or-set_other, length-take-le}
+use lib.ListN.{length, take, drop, get_or, set, replicate, length-set}
+use lib.Seq.{get_or-set_same, get_or-set_other}
 use Rattle.linecode.specs.Places.{places}
-use Rattle.linecode.proofs.WordBytes.{read_from, read_all}
 use Rattle.sweep.specs.Sums.{Summed, line_at, both_sums}
 
 -- the first k blocks are summed
 pub record Blocks (line sums : List ℕ) (k : ℕ) : Type 0 where
-  pub whole : length line ≡ 70
   pub room : length sums ≡ 4
-  pub far : k ≤ 4
   pub each : (j : ℕ) → j < k → Summed (take 16 (drop (16 * j) line)) (get_or sums j 0)
 
-pub blocks_start : (line sums : List ℕ) → length line ≡ 70 → length sums ≡ 4 → Blocks line sums 0
-blocks_start line sums e h = record { whole = e; room = h; far = omega arith; each = λ j i. absurd (not-suc-le-zero i) }
+pub blocks_start : (line sums : List ℕ) → length sums ≡ 4 → Blocks line sums 0
+blocks_start line sums h = record { room = h; each = λ j i. absurd (not-suc-le-zero i) }
 
 -- a list with one more element right
 pub each_set : (P : ℕ → ℕ → Type 0) (xs : List ℕ) (k v : ℕ) → k < length xs → ((j : ℕ) → j < k → P j (get_or xs j 0)) → P k v
@@ -33,14 +30,11 @@ each_set P xs k v room before here j h = at (dec_lt j k)
         subst (λ (j : ℕ). P j (get_or (set xs k v) j 0)) e (subst (P k) (sym (get_or-set_same xs k v 0 room)) here)
 
 pub blocks-next : (line sums : List ℕ) (k n : ℕ) → Blocks line sums k → k < 4
-    → Summed (get_or line (16 * k) 0 ∷ read_from 15 1 (16 * k) line) n → Blocks line (set sums k n) (k + 1)
+    → Summed (take 16 (drop (16 * k) line)) n → Blocks line (set sums k n) (k + 1)
 blocks-next line sums k n b h s =
     record {
-      whole = b.whole;
       room = length-set sums k n ∙ b.room;
-      far = omega arith;
-      each = each_set (λ j m. Summed (take 16 (drop (16 * j) line)) m) sums k n (omega (arith, b.room)) b.each
-          (subst (λ (bs : List ℕ). Summed bs n) (sym (read_all 15 (16 * k) line (omega (arith, b.whole)))) s);
+      each = each_set (λ j m. Summed (take 16 (drop (16 * j) line)) m) sums k n (omega (arith, b.room)) b.each s;
     }
 
 -- ---- the loop over the lines of a piece: the first i are summed
@@ -57,10 +51,6 @@ part-is buffer k = ap (λ (m : ℕ). take m (drop (k * 70) buffer)) (size (k * 7
   where
     size : (at : ℕ) → at + 70 - at ≡ 70
     size at = omega arith
-
-pub length_part : (buffer : List ℕ) (k : ℕ) → k * 70 + 70 ≤ length buffer
-    → length (take (k * 70 + 70 - k * 70) (drop (k * 70) buffer)) ≡ 70
-length_part buffer k h = ap length (part-is buffer k) ∙ length-take-le 70 (drop (k * 70) buffer) (omega (arith, length-drop (k * 70) buffer))
 
 pub lines_next : (buffer sums : List ℕ) (n i s : ℕ) → Lines buffer sums n i → i < 8
     → s ≡ both_sums (places (take ((n + i) * 70 + 70 - (n + i) * 70) (drop ((n + i) * 70) buffer))) → Lines buffer (set sums i s) n (i + 1)

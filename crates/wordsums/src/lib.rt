@@ -3,7 +3,7 @@
 
 mod words;
 
-ghost use Rattle.std.specs.Prelude.{◌≡◌, ◌++◌, ◌*◌, ◌/◌, ◌%◌, ◌^◌, ◌<◌, take, replicate};
+ghost use Rattle.std.specs.Prelude.{◌≡◌, ◌++◌, ◌*◌, ◌/◌, ◌%◌, ◌^◌, ◌<◌, take, replicate, get_or};
 ghost use Rattle.std.specs.Int.Bits.{bit_and, bit_xor};
 ghost use Rattle.gf2.specs.Word.{digits};
 ghost use Rattle.gf2.specs.Check.{column_sum};
@@ -62,19 +62,10 @@ fn number_sum(all: u64, b6: u64, b7: u64, b8: u64, b9: u64) -> u64
 // The exclusive or of the positions of the set places, from the data as eight words, and the CRC with a spare bit above it.
 // Between two powers of two a run of places is moved as a whole, so that bit i of word q is the place of position 64 q + i.
 // Then bits 6 to 9 of a position are those of q, and bits 0 to 5 are i, for which all words count as one.
-fn hamming_bits(
-    d0: u64,
-    d1: u64,
-    d2: u64,
-    d3: u64,
-    d4: u64,
-    d5: u64,
-    d6: u64,
-    d7: u64,
-    c: u32,
-) -> u64
-    ensures { result ≡ column_sum positions (digits 64 d0 ++ (digits 64 d1 ++ (digits 64 d2 ++ (digits 64 d3 ++ (digits 64 d4 ++ (digits 64 d5 ++ (digits 64 d6 ++ (digits 64 d7 ++ digits 32 c)))))))) }
+fn hamming_bits(data: &[u64; 8], c: u32) -> u64
+    ensures { result ≡ column_sum positions (digits 64 (get_or data.now 0 0) ++ (digits 64 (get_or data.now 1 0) ++ (digits 64 (get_or data.now 2 0) ++ (digits 64 (get_or data.now 3 0) ++ (digits 64 (get_or data.now 4 0) ++ (digits 64 (get_or data.now 5 0) ++ (digits 64 (get_or data.now 6 0) ++ (digits 64 (get_or data.now 7 0) ++ digits 32 c)))))))) }
 {
+    let [d0, d1, d2, d3, d4, d5, d6, d7] = *data;
     let p0 = ((d0 & 0x1) << 3)
         ^ ((d0 & 0xe) << 4)
         ^ ((d0 & 0x7f0) << 5)
@@ -100,22 +91,24 @@ fn hamming_bits(
 pub fn sum_with(line: [u8; 70], crc: u32) -> u16
     ensures { result ≡ column_sum positions (bits_of (take 64 line) ++ digits 32 crc) }
 {
-    let d0 = words::word_at(line, 0);
-    let d1 = words::word_at(line, 8);
-    let d2 = words::word_at(line, 16);
-    let d3 = words::word_at(line, 24);
-    let d4 = words::word_at(line, 32);
-    let d5 = words::word_at(line, 40);
-    let d6 = words::word_at(line, 48);
-    let d7 = words::word_at(line, 56);
-    hamming_bits(d0, d1, d2, d3, d4, d5, d6, d7, crc) as u16
+    let data = [
+        words::word_at(line, 0),
+        words::word_at(line, 8),
+        words::word_at(line, 16),
+        words::word_at(line, 24),
+        words::word_at(line, 32),
+        words::word_at(line, 40),
+        words::word_at(line, 48),
+        words::word_at(line, 56),
+    ];
+    hamming_bits(&data, crc) as u16
 }
 
 // The exclusive or of the positions of the set protected places: the Hamming bits, bit 0 lowest.
 pub fn position_sum(line: [u8; 70]) -> u16
     ensures { result ≡ column_sum positions (protected (places line)) }
 {
-    sum_with(line, words::half(line[64], line[65], line[66], line[67]))
+    sum_with(line, words::half_at(line, 64))
 }
 
 // The protected places with their Hamming bits written afresh, spare bits 0.

@@ -27,15 +27,12 @@ returns-in_default c =
     ∙ reads-past c.args.line (array-length 70 c.args.line _ c.well_formed.1.0) c.requires.hurt _ answered
     (unnamed-past _ c.in_default.not-Protected)
 
-pub overflow_cast-again : goal.overflow_cast-again
-overflow_cast-again c = omega arith
-
 pub with_bits-requires : goal.with_bits-requires
 with_bits-requires c = lower-half _ _ c.sums_of-again.ensures
 
-pub returns-then-again-lt65536 : goal.returns-then-again-lt65536
+pub returns-then-matched : goal.returns-then-matched
 unfolding place_of
-returns-then-again-lt65536 c =
+returns-then-matched c =
     let answered : answer_to (syndrome (places c.args.line)) ≡ c.answer_to.result =
     sym (c.answer_to.ensures
     ∙ ap answer_to
@@ -46,7 +43,7 @@ returns-then-again-lt65536 c =
     ∙ sym (corrector-named (places c.args.line) _ (answered ∙ c.in-Protected.is)) in
     ap (λ (x : List ℕ). record { line = x; mark = 1 }) c.with_bits.ensures
     ∙ reads-corrected c.args.line (array-length 70 c.args.line _ c.well_formed.1.0) _ c.requires.hurt flipped
-    (below _ _ c.sums_of-again.ensures c.if-again-lt65536.true).0
+    (below _ _ c.sums_of-again.ensures c.if-matched.true).0
 
 pub returns : goal.returns
 unfolding place_of
@@ -61,4 +58,4 @@ returns c =
     ∙ sym (corrector-named (places c.args.line) _ (answered ∙ c.in-Protected.is)) in
     ap (λ (x : List ℕ). record { line = x; mark = 4 }) c.clear_spare-2.ensures
     ∙ reads-faulty c.args.line (array-length 70 c.args.line _ c.well_formed.1.0) _ c.requires.hurt flipped
-    (above _ _ c.sums_of-again.ensures c.if-again-lt65536.false).0
+    (above _ _ c.sums_of-again.ensures c.if-matched.false).0

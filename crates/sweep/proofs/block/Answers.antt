@@ -1,10 +1,29 @@
--- `sweep::block` meets its contract.
-use mathlib.Core.Path.{refl}
-use mathlib.Core.List.{[], ◌∷◌}
-use Rattle.sweep.proofs.Entries.{block-summed}
+-- `sweep::block` meets its contract: after k turns the entries of the last k bytes are added.
+use mathlib.Core.Path.{◌≡◌, sym, ap, ◌∙◌, subst}
+use Prim.Native.Nat.{ℕ, ◌-◌}
+use native.Mathlib.Omega.{arith}
+use lib.ListN.{drop, drop_of_length-le}
+use Rattle.register.proofs.Slicing.{late}
+use Rattle.register.proofs.TableRule.{entry_of}
+use Rattle.register.proofs.Bytes.{array-length, array-bytes}
+use Rattle.sweep.specs.Sums.{Summed}
+use Rattle.sweep.proofs.Entries.{block-summed, late-turn}
 use Rattle.sweep.proofs.block.Goals as goal
+
+pub loop-k-init : goal.loop-k-init
+loop-k-init c =
+    let whole = array-length 16 c.args.bytes _ c.well_formed.1.0 in
+    sym (ap (late (entry_of c.args.table.now.entries.now)) (drop_of_length-le c.args.bytes {i = 16} (omega arith)))
+
+pub loop-k-preserved : goal.loop-k-preserved
+loop-k-preserved c =
+    late-turn c.args.table.now.entries.now c.args.bytes c.loop-k.k c.loop-k.sum (array-length 16 c.args.bytes _ c.well_formed.1.0) c.loop-k-test.true
+    c.loop-k.invariant
 
 pub returns : goal.returns
 returns c =
-    block-summed c.args.table.now c.requires (c.args.b0 ∷ c.args.b1 ∷ c.args.b2 ∷ c.args.b3 ∷ c.args.b4 ∷ c.args.b5 ∷ c.args.b6 ∷ c.args.b7 ∷ c.args.b8 ∷ c.args.b9 ∷ c.args.b10 ∷ c.args.b11 ∷ c.args.b12 ∷ c.args.b13 ∷ c.args.b14 ∷ c.args.b15 ∷ []) refl
-    (c.ranges.b0.fits, (c.ranges.b1.fits, (c.ranges.b2.fits, (c.ranges.b3.fits, (c.ranges.b4.fits, (c.ranges.b5.fits, (c.ranges.b6.fits, (c.ranges.b7.fits, (c.ranges.b8.fits, (c.ranges.b9.fits, (c.ranges.b10.fits, (c.ranges.b11.fits, (c.ranges.b12.fits, (c.ranges.b13.fits, (c.ranges.b14.fits, (c.ranges.b15.fits, tt))))))))))))))))
+    let none : 16 - c.loop-k.k ≡ 0 = omega (arith, c.loop-k-test.false) in
+    subst (Summed c.args.bytes)
+    (sym (c.loop-k.invariant ∙ ap (λ (i : ℕ). late (entry_of c.args.table.now.entries.now) (drop i c.args.bytes)) none))
+    (block-summed c.args.table.now.entries.now c.args.table.now.lent c.args.bytes
+    (array-length 16 c.args.bytes _ c.well_formed.1.0) (array-bytes 16 c.args.bytes _ c.well_formed.1.0))

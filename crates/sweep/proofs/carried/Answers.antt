@@ -4,4 +4,5 @@ use Rattle.sweep.proofs.carried.Goals as goal
 
 pub returns : goal.returns
 returns c =
-    (carried-low c.args.table.now c.requires c.args.r, carried-high c.args.table.now c.requires c.args.r)
+    rw c.to_le_bytes.ensures
+    (carried-low c.args.table.now.entries.now c.args.table.now.lent c.args.r, carried-high c.args.table.now.entries.now c.args.table.now.lent c.args.r)

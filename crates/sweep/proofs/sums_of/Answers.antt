@@ -11,5 +11,5 @@ use Rattle.sweep.proofs.sums_of.Goals as goal
 
 pub returns : goal.returns
 returns c =
-    c.sums_of_lines-sums.ensures 0 (omega arith)
+    c.sums_of_lines.ensures 0 (omega arith)
     ∙ ap (λ (b : List ℕ). both_sums (places b)) (take_all 70 c.args.line (omega (arith, array-length 70 c.args.line _ c.well_formed.1.0)))

@@ -11,5 +11,5 @@ pub returns : goal.returns
 returns c =
     let whole = array-length 70 c.args.line _ c.well_formed.0 in
     c.sum_with.ensures
-    ∙ ap (column_sum positions) (last-half c.args.line whole c.half.result c.half.ensures)
+    ∙ ap (column_sum positions) (last-half c.args.line whole c.half_at.result c.half_at.ensures)
     ∙ protected-sum c.args.line whole positions length-positions

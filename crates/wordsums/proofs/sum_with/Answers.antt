@@ -19,11 +19,11 @@ returns c =
     let whole = array-length 70 c.args.line _ c.well_formed.0 in
     c.hamming_bits.ensures
     ∙ ap (column_sum positions)
-    (word-before c.args.line whole 0 56 c.word_at-d0.result _ crc (omega arith) c.word_at-d0.ensures
-    (word-before c.args.line whole 8 48 c.word_at-d1.result _ crc (omega arith) c.word_at-d1.ensures
-    (word-before c.args.line whole 16 40 c.word_at-d2.result _ crc (omega arith) c.word_at-d2.ensures
-    (word-before c.args.line whole 24 32 c.word_at-d3.result _ crc (omega arith) c.word_at-d3.ensures
-    (word-before c.args.line whole 32 24 c.word_at-d4.result _ crc (omega arith) c.word_at-d4.ensures
-    (word-before c.args.line whole 40 16 c.word_at-d5.result _ crc (omega arith) c.word_at-d5.ensures
-    (word-before c.args.line whole 48 8 c.word_at-d6.result _ crc (omega arith) c.word_at-d6.ensures
-    (word-before c.args.line whole 56 0 c.word_at-d7.result crc crc (omega arith) c.word_at-d7.ensures refl))))))))
+    (word-before c.args.line whole 0 56 c.word_at.result _ crc (omega arith) c.word_at.ensures
+    (word-before c.args.line whole 8 48 c.word_at-2.result _ crc (omega arith) c.word_at-2.ensures
+    (word-before c.args.line whole 16 40 c.word_at-3.result _ crc (omega arith) c.word_at-3.ensures
+    (word-before c.args.line whole 24 32 c.word_at-4.result _ crc (omega arith) c.word_at-4.ensures
+    (word-before c.args.line whole 32 24 c.word_at-5.result _ crc (omega arith) c.word_at-5.ensures
+    (word-before c.args.line whole 40 16 c.word_at-6.result _ crc (omega arith) c.word_at-6.ensures
+    (word-before c.args.line whole 48 8 c.word_at-7.result _ crc (omega arith) c.word_at-7.ensures
+    (word-before c.args.line whole 56 0 c.word_at-8.result crc crc (omega arith) c.word_at-8.ensures refl))))))))

@@ -25,6 +25,6 @@ compared l sum stored b whole asked held e =
 pub returns-then-stored-sum : goal.returns-then-stored-sum
 returns-then-stored-sum c = compared c.args.line _ _ _ (array-length 70 c.args.line _ c.well_formed.0) c.requires c.stored.ensures (eq-eqb _ _ (sym c.if-stored-sum.true))
 
-pub returns : goal.returns
-returns c =
+pub returns-else-stored-sum : goal.returns-else-stored-sum
+returns-else-stored-sum c =
     compared c.args.line _ _ _ (array-length 70 c.args.line _ c.well_formed.0) c.requires c.stored.ensures (ne_eqb _ _ (λ e. c.if-stored-sum.false (sym e)))

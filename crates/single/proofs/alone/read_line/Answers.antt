@@ -15,9 +15,6 @@ use Rattle.single.proofs.Numbers.{reads-codeword, matched-number, protected-sum,
 use Rattle.single.proofs.alone.read_line.Goals as goal
 
 -- the CRC from the data, and the comparison
-pub matches-requires : goal.matches-requires
-matches-requires c = c.of_data-worked.ensures
-
 pub with_checks-requires : goal.with_checks-requires
 with_checks-requires c = (
   c.of_data-worked.ensures,
@@ -42,9 +39,6 @@ pub corrected-after-requires : goal.corrected-after-requires
 corrected-after-requires c =
     held-syndrome c.args.line (array-length 70 c.args.line _ c.well_formed.0) c.stored.result c.stored.ensures c.sum_with-sum.result
     c.stored-2.result c.sum_with-sum.ensures c.stored-2.ensures
-
-pub matches-requires-2 : goal.matches-requires-2
-matches-requires-2 c = c.of_data.ensures
 
 pub returns-then-matches-2 : goal.returns-then-matches-2
 returns-then-matches-2 c =
