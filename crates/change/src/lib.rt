@@ -2,56 +2,49 @@
 // writes one, so it goes by the tables that are compiled in; `tables` and `repair`, which read every line, lend a table.
 #![tactic(auto)]
 
-ghost use Rattle.std.specs.Prelude.{◌≡◌, ℕ, suc, ◌*◌, ◌/◌, ◌%◌, ◌≤◌, ◌<◌, length};
-ghost use Rattle.rectangle.specs.Store.{alone_at, in_bytes, row_group, column_group};
+ghost use Rattle.std.specs.Prelude.{◌≡◌, ℕ, suc, ◌*◌, ◌/◌, ◌%◌, ◌≤◌, length, IfOk};
+ghost use Rattle.linecode.specs.Places.{line_of};
+ghost use Rattle.rectangle.specs.Answers.{answer_of, index_with};
+ghost use Rattle.rectangle.specs.Store.{alone_at, row_group, column_group};
 ghost use Rattle.rectangle.specs.Refusals.{parity_correct, parity_refusal, change_refusal, number_with};
 ghost use Rattle.rectangle.specs.Change.{LineChanged, change_line};
 
-use linecode::alone::Reading;
 use linecode::place;
-use rectangle::lines::{
-    ColumnIndex, RowIndex, add_to_column, add_to_row, column_of, column_parity, line_at, put_line,
-    row_of, row_parity,
-};
+use rectangle::answers::Refusal;
+use rectangle::lines::{ColumnIndex, GroupIndex, RowIndex, line_at, put_line};
 use rectangle::sizes;
+use rectangle::sizes::Sides;
 use single::alone;
 
-// What a change answers, and the number of its row or column that comes with 13 or 14, otherwise 0.
-#[derive(Drop)]
-pub struct Changed {
-    pub answer: u32,
-    pub number: usize,
-}
-
-// Line n of a buffer as it reads alone.
-fn alone_at(buffer: &[u8], n: usize) -> Reading
-    requires { suc n * 70 ≤ length buffer.now }
-    ensures { result ≡ in_bytes (alone_at buffer.now n) }
-{
-    alone::read_line(line_at(buffer, n))
-}
-
-// 13 where a row's parity line isn't a correct line, then 14 where a column's isn't, spare bits apart, or 0: in a rectangle of any sides.
-fn parity_refusal(row_table: &[u8], row: RowIndex, column_table: &[u8], column: ColumnIndex) -> u32
+// Whether a row's parity line is a correct line, then a column's, spare bits apart: in a rectangle of any sides.
+#[tactic(auto, unfolding(rectangle::specs::Refusals::number_with))]
+fn check_parity(
+    row_table: &[u8],
+    row: RowIndex,
+    column_table: &[u8],
+    column: ColumnIndex,
+) -> Result<(), Refusal>
     requires { (suc row.0 * 70 ≤ length row_table.now) × (suc column.0 * 70 ≤ length column_table.now) }
-    ensures { (rows columns : ℕ) → result
+    ensures answer { (rows columns : ℕ) → answer_of result
         ≡ parity_refusal (parity_correct (row_group columns row_table.now row.0))
         (parity_correct (column_group rows columns column_table.now column.0)) 0 }
+    ensures number { index_with result ≡ number_with (answer_of result) row.0 column.0 }
 {
-    let of_row = row_parity(row_table, row);
-    let of_column = column_parity(column_table, column);
+    let of_row = row.parity(row_table);
+    let of_column = column.parity(column_table);
     if !alone::is_correct(of_row) {
-        return 13;
+        return Err(Refusal::RowParity(row));
     }
     if !alone::is_correct(of_column) {
-        return 14;
+        return Err(Refusal::ColumnParity(column));
     }
-    0
+    Ok(())
 }
 
-// The first refusal that fits, or 0: only the line's own two parity lines are tested for 13 and 14, and the line alone for 10. It is read
-// first all the same, so that the answers stand together in their order.
-fn refusal(
+// The rectangle's sides, and line n as it reads alone; or the first refusal that fits: only the line's own two parity lines are tested for
+// 13 and 14, and the line alone for 10. Sizes and buffers come one by one here and below, as C hands them over and definitions take them.
+#[tactic(auto, unfolding(rectangle::specs::Refusals::number_with))]
+fn line_to_change(
     rows: usize,
     columns: usize,
     lines: &[u8],
@@ -59,54 +52,38 @@ fn refusal(
     column_table: &[u8],
     n: usize,
     payload: &[u8],
-) -> u32
-    ensures { result ≡ change_refusal rows columns lines.now row_table.now column_table.now n
-        payload.now }
+) -> Result<(Sides, [u8; 70]), Refusal>
+    ensures answer { answer_of result
+        ≡ change_refusal rows columns lines.now row_table.now column_table.now n payload.now }
+    ensures number { index_with result ≡ number_with (answer_of result) (n / columns) (n % columns) }
+    ensures sides { IfOk result (λ found. (found.0.rows ≡ rows) × (found.0.columns ≡ columns)) }
+    ensures line { IfOk result (λ found. found.1 ≡ line_of (alone_at lines.now n).line) }
 {
-    let refused = sizes::refusal(
+    let sides = sizes::check(
         rows,
         columns,
         lines.len(),
         row_table.len(),
         column_table.len(),
-    );
-    if refused != 0 {
-        return refused;
-    }
+    )?;
     if payload.len() != 64 {
-        return 7;
+        return Err(Refusal::Room);
     }
-    if rows * columns <= n {
-        return 8;
+    if sides.lines() <= n {
+        return Err(Refusal::Number);
     }
-    let read = alone_at(lines, n);
-    let row = row_of(columns, n);
-    let bad = parity_refusal(row_table, row, column_table, column_of(columns, n));
-    if bad != 0 {
-        return bad;
-    }
+    let row = sides.row_of(n);
+    let column = sides.column_of(n);
+    check_parity(row_table, row, column_table, column)?;
+    let read = alone::read_line(line_at(lines, n));
     if read.mark == 4 {
-        return 10;
+        return Err(Refusal::Faulty);
     }
-    0
+    let line = read.line;
+    Ok((sides, line))
 }
 
-// The number that comes with an answer: that of line n's row with 13, that of its column with 14, otherwise 0.
-fn number_with(answer: u32, columns: usize, n: usize) -> usize
-    requires { 6 < answer → 0 < columns }
-    ensures { result ≡ number_with answer (n / columns) (n % columns) }
-{
-    if answer == 13 {
-        return row_of(columns, n).0;
-    }
-    if answer == 14 {
-        return column_of(columns, n).0;
-    }
-    0
-}
-
-// Line n written anew from 64 data bytes: 0 and 0, or the first refusal that fits, which writes nothing, and its number.
-#[tactic(auto, using(crate::proofs::Refusing::refusing))]
+// Line n written anew from 64 data bytes, or the first refusal that fits, which writes nothing.
 pub fn change_line(
     rows: usize,
     columns: usize,
@@ -115,11 +92,11 @@ pub fn change_line(
     column_table: &mut [u8],
     n: usize,
     payload: &[u8],
-) -> Changed
+) -> Result<(), Refusal>
     ensures { ◌≡◌ {A = LineChanged}
         (record {
-          answer = result.answer;
-          number = result.number;
+          answer = answer_of result;
+          number = index_with result;
           lines = lines.new;
           row_table = row_table.new;
           column_table = column_table.new;
@@ -127,22 +104,11 @@ pub fn change_line(
         (change_line rows columns lines.old row_table.old column_table.old n
         payload.now) }
 {
-    let answer = refusal(rows, columns, lines, row_table, column_table, n, payload);
-    if answer != 0 {
-        let number = number_with(answer, columns, n);
-        return Changed { answer, number };
-    }
-    let read = alone_at(lines, n);
-    let old = read.line;
+    let (sides, old) = line_to_change(rows, columns, lines, row_table, column_table, n, payload)?;
     let new = alone::rewrite(place::load(payload));
     let both = place::xor_lines(old, new);
     put_line(lines, n, new);
-    let row = row_of(columns, n);
-    add_to_row(row_table, row, both);
-    let column = column_of(columns, n);
-    add_to_column(column_table, column, both);
-    Changed {
-        answer: 0,
-        number: 0,
-    }
+    sides.row_of(n).add_to(row_table, both);
+    sides.column_of(n).add_to(column_table, both);
+    Ok(())
 }

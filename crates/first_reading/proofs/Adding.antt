@@ -197,20 +197,6 @@ pub record Place (rows : ℕ) (out marks lacks faulty : List ℕ) (hurt n c : �
   pub column_few : get_or faulty (rows + c) 0 ≤ 512
 
 module _ (rows : ℕ) (out marks lacks₀ faulty₀ : List ℕ) (n c count : ℕ) (difference₀ : List ℕ) (hurt₀ : ℕ) where
-  pub adding-start : SomePiece rows out marks lacks₀ faulty₀ n c count difference₀ hurt₀
-      → Adding rows out marks lacks₀ faulty₀ n c count difference₀ hurt₀ lacks₀ faulty₀ difference₀ hurt₀ 0
-  adding-start some =
-      record {
-        few = omega arith;
-        same = refl;
-        counts = some.7.room.counts;
-        store = λ columns parity found r row_lacks e p.
-            subst (λ (k : ℕ). RowOpen rows columns parity found (row_lacks ++ lacks₀) faulty₀ r k difference₀ hurt₀) (same n) p.opened;
-      }
-    where
-      same : (n : ℕ) → n ≡ n + 0
-      same n = omega arith
-
   module _ (lacks faulty difference : List ℕ) (hurt i : ℕ) (a : Adding rows out marks lacks₀ faulty₀ n c count difference₀ hurt₀ lacks faulty difference hurt i) where
     pub adding-end : count ≤ i → (columns : ℕ) (parity : ℕ → Word) (found : List ℕ) (r : ℕ) (row_lacks : List ℕ) → length row_lacks ≡ rows * 70
         → Piece rows columns parity found out marks (row_lacks ++ lacks₀) faulty₀ r n c count difference₀ hurt₀

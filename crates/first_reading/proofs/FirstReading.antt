@@ -156,13 +156,6 @@ pub record ReadingOn (found out₀ marks₀ : List ℕ) (n count : ℕ) (out mar
   pub mark_bytes : length marks ≡ length marks₀
   pub store : Begun out₀ marks₀ (read_first found n) → Begun out marks (read_first found (n + i))
 
-pub reading-start : (found out marks : List ℕ) (n count : ℕ) → length out ≡ length marks * 70 → ReadingOn found out marks n count out marks 0
-reading-start found out marks n count e =
-    record { few = omega arith; out_bytes = e; mark_bytes = refl; store = λ b. subst (λ (k : ℕ). Begun out marks (read_first found k)) (same n) b }
-  where
-    same : (n : ℕ) → n ≡ n + 0
-    same n = omega arith
-
 pub reading-next : (found out₀ marks₀ : List ℕ) (n count : ℕ) (out marks : List ℕ) (i : ℕ) (after : List ℕ) (mark : ℕ)
     → ReadingOn found out₀ marks₀ n count out marks i → i < count → n + count ≤ length marks₀ → length after ≡ length out
     → after ≡ put_line out (n + i) (alone_at found (n + i)).line → mark ≡ (alone_at found (n + i)).mark
@@ -179,13 +172,6 @@ reading-next found out₀ marks₀ n count out marks i after mark r h inside e a
   where
     next : (n i : ℕ) → suc (n + i) ≡ n + (i + 1)
     next n i = omega arith
-
-pub reading-end : (found out₀ marks₀ : List ℕ) (n count : ℕ) (out marks : List ℕ) (i : ℕ) → ReadingOn found out₀ marks₀ n count out marks i
-    → count ≤ i → Begun out₀ marks₀ (read_first found n) → Begun out marks (read_first found (n + count))
-reading-end found out₀ marks₀ n count out marks i r h b = subst (λ (k : ℕ). Begun out marks (read_first found (n + k))) last (r.store b)
-  where
-    last : i ≡ count
-    last = omega (arith, r.few)
 
 -- all lines are read
 pub begun-end : (found out marks : List ℕ) (count : ℕ) → length found ≡ count * 70 → length out ≡ count * 70 → length marks ≡ count

@@ -1,14 +1,15 @@
 -- Lines of zeros, and one of the groups' differences put anew.
 use mathlib.Core.Path.{◌≡◌, refl, sym, ap, ◌∙◌}
-use mathlib.Core.Bool.{Bool, true, false, and-eq-true_iff}
+use mathlib.Core.Bool.{Bool, true, false}
 use mathlib.Core.List.{List, [], ◌∷◌}
-use Prim.Native.Nat.{ℕ, zero, suc, ◌+◌, ◌*◌, ◌<◌}
-use native.Mathlib.Nat.{zero-add}
+use Prim.Native.Nat.{ℕ, zero, suc, ◌*◌, ◌<◌}
 use native.Mathlib.Omega.{arith}
-use borrow.Author.Tests.{eqb-true}
+use borrow.Author.Tests.{eq-eqb, eqb-true}
 use lib.Dec.{eqb}
 use lib.ListN.{length, get_or, replicate, get_or-replicate, length-replicate}
 use lib.Seq.{ext_get_or}
+use Rattle.std.specs.Cmp.{both_ways}
+use Rattle.std.specs.Prelude.{◌↔◌, IsTrue, EachIndex, slice_index}
 use Rattle.gf2.specs.Word.{Word, zeros, is_zero}
 use Rattle.linecode.specs.Places.{line_places, line_bytes, places, line_of}
 use Rattle.linecode.specs.Code.{up_from}
@@ -16,6 +17,7 @@ use Rattle.scheme.specs.Visit.{set_places}
 use Rattle.scheme.proofs.Words.{is_zero-zeros}
 use Rattle.rectangle.specs.Store.{bytes_at, put_bytes, put_line}
 use Rattle.rectangle.specs.Refusals.{every}
+use Rattle.rectangle.proofs.Tests.{every-below, below-every}
 use Rattle.rectangle.proofs.Buffer.{length-put_line, bytes_at-put, bytes_at-other}
 use Rattle.rectangle.proofs.Spare.{bytes-is, seventy-line_of, places-line_of, zero-line}
 use Rattle.groups.specs.Lent.{all_zero}
@@ -27,41 +29,18 @@ zero-places = ap places (sym zero-line) ∙ places-line_of (zeros line_places) (
 zero_word : (w : Word) → is_zero w ≡ true → w ≡ zeros (length w)
 zero_word [] e = refl
 zero_word (false ∷ w) e = ap (λ (v : Word). false ∷ v) (zero_word w e)
-zero_word (true ∷ w) e = let z : ◌≡◌ {A = Bool} true false = sym e in absurd (never z)
-  where
-    never : true ≡ false → ⊥
-    never q = let y : ◌≡◌ {A = ℕ} 0 1 = ap (λ (b : Bool). number b) q in omega arith
-      where
-        number : Bool → ℕ
-        number true = 0
-        number false = 1
+zero_word (true ∷ w) e = cc
 
 zeros-places : (i n : ℕ) → set_places i (zeros n) ≡ []
 zeros-places i zero = refl
 zeros-places i (suc n) = zeros-places (suc i) n
-
-every_one : (test : ℕ → Bool) (i n : ℕ) → every test (up_from i n) ≡ true → (k : ℕ) → k < n → test (i + k) ≡ true
-every_one test i zero e k h = let z : ⊥ = omega arith in absurd z
-every_one test i (suc n) e zero h =
-    ap test (nought i) ∙ ((and-eq-true_iff (test i) (every test (up_from (suc i) n))).0 e).0
-  where
-    nought : (i : ℕ) → i + 0 ≡ i
-    nought i = omega arith
-every_one test i (suc n) e (suc k) h =
-    ap test (next i k) ∙ every_one test (suc i) n ((and-eq-true_iff (test i) (every test (up_from (suc i) n))).0 e).1 k (omega arith)
-  where
-    next : (i k : ℕ) → i + suc k ≡ suc i + k
-    next i k = omega arith
 
 -- a line whose bytes are all 0
 zero-bytes : (line : List ℕ) → length line ≡ 70 → all_zero line ≡ true → line ≡ replicate 70 0
 unfolding all_zero
 zero-bytes line e z =
     ext_get_or 0 line (replicate 70 0) e
-    (λ i h.
-    let below : i < 70 = omega arith in
-    eqb-true (get_or line i 0) 0 (ap (λ (k : ℕ). eqb (get_or line k 0) 0) (sym (zero-add i)) ∙ every_one (λ k. eqb (get_or line k 0) 0) 0 70 z i below)
-    ∙ sym (get_or-replicate 70 i 0 0 below))
+    (λ i h. let below : i < 70 = omega arith in eqb-true _ 0 (below-every (λ k. eqb (get_or line k 0) 0) 70 z i below) ∙ sym (get_or-replicate 70 i 0 0 below))
 
 all-zero : all_zero (replicate 70 0) ≡ true
 unfolding all_zero
@@ -70,21 +49,20 @@ all-zero = refl
 pub zero-no-places : (line : List ℕ) → length line ≡ 70 → all_zero line ≡ true → set_places 0 (places line) ≡ []
 zero-no-places line e z = ap (λ (l : List ℕ). set_places 0 (places l)) (zero-bytes line e z) ∙ ap (set_places 0) zero-places ∙ zeros-places 0 line_places
 
+-- the test byte by byte
+pub zero-test : (b : Bool) (line : List ℕ) → length line ≡ 70 → IsTrue b ↔ EachIndex line (λ k. slice_index line k ≡ 0) → b ≡ all_zero line
+unfolding all_zero
+zero-test b line e h =
+    both_ways b (every (λ i. eqb (get_or line i 0) 0) (up_from 0 70))
+    (λ t. every-below (λ i. eqb (get_or line i 0) 0) 70 (λ k less. eq-eqb _ 0 (h.0 t k (omega arith))))
+    (λ z. h.1 (λ k less. eqb-true _ 0 (below-every (λ i. eqb (get_or line i 0) 0) 70 z k (omega arith))))
+
 -- the bytes of a word are 0 where the word is
 pub zero-line_of : (w : Word) → length w ≡ line_places → all_zero (line_of w) ≡ is_zero w
-zero-line_of w e = equal (all_zero (line_of w)) (is_zero w) there back
-  where
-    there : all_zero (line_of w) ≡ true → is_zero w ≡ true
-    there z =
-        ap is_zero (sym (places-line_of w e) ∙ ap places (zero-bytes (line_of w) (seventy-line_of w) z) ∙ zero-places) ∙ is_zero-zeros line_places
-
-    back : is_zero w ≡ true → all_zero (line_of w) ≡ true
-    back z = ap all_zero (ap line_of (zero_word w z ∙ ap zeros e) ∙ zero-line) ∙ all-zero
-
-    equal : (a b : Bool) → (a ≡ true → b ≡ true) → (b ≡ true → a ≡ true) → a ≡ b
-    equal true b f g = sym (f refl)
-    equal false true f g = g refl
-    equal false false f g = refl
+zero-line_of w e =
+    both_ways (all_zero (line_of w)) (is_zero w)
+    (λ z. ap is_zero (sym (places-line_of w e) ∙ ap places (zero-bytes (line_of w) (seventy-line_of w) z) ∙ zero-places) ∙ is_zero-zeros line_places)
+    (λ z. ap all_zero (ap line_of (zero_word w z ∙ ap zeros e) ∙ zero-line) ∙ all-zero)
 
 -- ---- line k of so many put anew
 module _ (total : ℕ) (lacks : List ℕ) (whole : length lacks ≡ total * 70) (k : ℕ) (inside : k < total) where

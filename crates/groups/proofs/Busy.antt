@@ -1,17 +1,18 @@
 -- Bytes that are not 0, and the set places that they have.
 use mathlib.Core.Path.{◌≡◌, refl, sym, ap, ◌∙◌}
-use mathlib.Core.Bool.{true, false}
-use mathlib.Core.List.{List, [], ◌∷◌, ◌++◌, append-nil}
+use mathlib.Core.Bool.{Bool, true, false, not, cond}
+use Rattle.std.specs.Prelude.{◌==◌, count_by}
+use mathlib.Core.List.{List, [], ◌∷◌, ◌++◌}
 use Prim.Native.Nat.{ℕ, zero, suc, ◌+◌, ◌≤◌, ◌<◌}
 use native.Mathlib.Nat.{suc-add, zero-add}
-use native.Mathlib.Numerals.{add-one}
 use native.Mathlib.Omega.{arith}
-use lib.ListN.{length, take, drop, get_or, take-append-drop}
-use lib.Seq.{take-suc}
+use lib.ListN.{length, take, drop, take-append-drop}
 use Rattle.gf2.specs.Word.{Word, digits, number, weight}
 use Rattle.gf2.proofs.Digits.{number_small}
 use Rattle.linecode.specs.Places.{bits_of, places}
-use Rattle.linecode.proofs.Bytes.{Bytes, byte_at, bits_of-append}
+use Rattle.std.proofs.lemmas.List.Sums.{sum_by-cons}
+use borrow.Author.Tests.{eqb-false}
+use Rattle.linecode.proofs.Bytes.{Bytes, bytes_take}
 use Rattle.promises.proofs.LineLayout.{layout}
 use Rattle.scheme.specs.Visit.{set_places}
 use Rattle.scheme.proofs.Words.{length-set_places}
@@ -33,41 +34,22 @@ busy-byte b h d = go (weight (digits 8 b)) refl
     go zero e = absurd (d (sym (number_small 8 b h) ∙ light-zero (digits 8 b) e))
     go (suc k) e = omega arith
 
--- the loop: of the first i bytes so many are not 0
-pub record Busy (line : List ℕ) (busy i : ℕ) : Type 0 where
-  pub far : i ≤ 67
-  pub few : busy ≤ i
-  pub held : busy ≤ weight (bits_of (take i line))
+pub busy-weight : (l : List ℕ) → Bytes l → count_by (λ b. not (b == 0)) l ≤ weight (bits_of l)
+busy-weight [] h = omega arith
+busy-weight (b ∷ l) h =
+    let rest = busy-weight l h.1 in
+    omega (arith, sum_by-cons (λ x. cond (not (x == 0)) 1 0) b l, weight-append (digits 8 b) (bits_of l), one (b == 0) refl)
+  where
+    one : (t : Bool) → b == 0 ≡ t → cond (not t) 1 0 ≤ weight (digits 8 b)
+    one true e = omega arith
+    one false e = busy-byte b h.0 (eqb-false b 0 e)
 
-pub busy-start : (line : List ℕ) → Busy line 0 0
-busy-start line = record { far = omega arith; few = omega arith; held = omega arith }
-
-module _ (line : List ℕ) (whole : length line ≡ 70) (bytes : Bytes line) (busy i : ℕ) (b : Busy line busy i) where
-  pub next-weight : i < 67 → weight (bits_of (take (i + 1) line)) ≡ weight (bits_of (take i line)) + weight (digits 8 (get_or line i 0))
-  next-weight h =
-      ap (λ (k : ℕ). weight (bits_of (take k line))) (add-one i)
-      ∙ ap (λ (l : List ℕ). weight (bits_of l)) (take-suc line i 0 (omega arith))
-      ∙ ap weight (bits_of-append (take i line) (get_or line i 0 ∷ []))
-      ∙ weight-append (bits_of (take i line)) (bits_of (get_or line i 0 ∷ []))
-      ∙ ap (λ (w : Word). weight (bits_of (take i line)) + weight w) (append-nil (digits 8 (get_or line i 0)))
-
-  pub busy-more : i < 67 → (get_or line i 0 ≡ 0 → ⊥) → Busy line (busy + 1) (i + 1)
-  busy-more h d =
-      record {
-        far = omega arith;
-        few = omega (arith, b.few);
-        held = omega (arith, b.held, next-weight h, busy-byte (get_or line i 0) (byte_at line i bytes) d);
-      }
-
-  pub busy-same : i < 67 → Busy line busy (i + 1)
-  busy-same h = record { far = omega arith; few = omega (arith, b.few); held = omega (arith, b.held, next-weight h) }
-
-  pub busy-end : 67 ≤ i → busy ≤ length (set_places 0 (places line))
-  busy-end h =
-      let all : i ≡ 67 = omega (arith, b.far) in
-      let parts =
-      length-set_places 0 (places line)
-      ∙ ap weight (sym (take-append-drop 536 (places line)))
-      ∙ weight-append (take 536 (places line)) (drop 536 (places line))
-      ∙ ap (λ (w : Word). weight w + weight (drop 536 (places line))) (layout.front line whole) in
-      omega (arith, b.held, ap (λ (k : ℕ). weight (bits_of (take k line))) all, parts)
+-- so in a line's first bytes, whose eight bits are all places
+pub busy-places : (line : List ℕ) → length line ≡ 70 → Bytes line → count_by (λ b. not (b == 0)) (take 67 line) ≤ length (set_places 0 (places line))
+busy-places line whole bytes =
+    let parts =
+    length-set_places 0 (places line)
+    ∙ ap weight (sym (take-append-drop 536 (places line)))
+    ∙ weight-append (take 536 (places line)) (drop 536 (places line))
+    ∙ ap (λ (w : Word). weight w + weight (drop 536 (places line))) (layout.front line whole) in
+    omega (arith, busy-weight (take 67 line) (bytes_take 67 line bytes), parts)

@@ -1,16 +1,19 @@
 -- Two tables one after the other, as the differences of all groups stand in visiting order: each line is reached and put in its own table.
-use mathlib.Core.Path.{◌≡◌, sym, ap, ap₂, ◌∙◌}
+use mathlib.Core.Path.{◌≡◌, sym, ap, ap₂, subst, ◌∙◌}
+use mathlib.Core.Bool.{◌||◌}
 use mathlib.Core.List.{List, ◌++◌, append_assoc}
 use Prim.Native.Nat.{ℕ, suc, ◌+◌, ◌*◌, ◌≤◌, ◌<◌}
 use native.Mathlib.Nat.{suc-mul, add-mul, mul-le-mul_right}
 use native.Mathlib.Omega.{arith}
-use lib.ListN.{length, take, drop, length-append, length-drop}
+use lib.Dec.{eqb}
+use lib.ListN.{length, get_or, take, drop, length-append, length-drop}
 use lib.Seq.{take-append-le, drop-append-le, take-append-add, drop-append-add}
 use Rattle.linecode.specs.Places.{line_bytes, xor_bytes}
 use Rattle.rectangle.specs.Store.{bytes_at, put_bytes}
 use Rattle.rectangle.proofs.Buffer.{lines-le}
 use Rattle.rectangle.proofs.Spare.{bytes-is}
-use Rattle.groups.specs.Lent.{number_of, Within, difference_of, Reached}
+use Rattle.groups.specs.Lent.{all_zero, agrees_at, which_of, number_of, Within, difference_of, Reached}
+use Rattle.groups.proofs.Numbers.{which-number, which-within}
 use Rattle.groups.specs.declared.tracked.Which.{Which}
 use Rattle.groups.specs.declared.tracked.Which.TheVariants.{Row, Column}
 
@@ -96,3 +99,22 @@ module _ (row_lacks column_lacks : List ℕ) (rows columns : ℕ) (first : lengt
       → Reached row_lacks column_lacks which
   which-reached second (Row r) h = table-line (length row_lacks) rows r.0 first h
   which-reached second (Column c) h = table-line (length column_lacks) columns c.0 second h
+
+  -- group k in visiting order is compared
+  module _ (k : ℕ) (listed : k < rows + columns) (which : Which) (which-is : which ≡ which_of rows k) where
+    pub visited-number : number_of rows which ≡ k
+    visited-number = ap (number_of rows) which-is ∙ which-number rows k
+
+    visited-within : Within rows columns which
+    visited-within = subst (Within rows columns) (sym which-is) (which-within rows k columns listed)
+
+    pub visited-reached : length column_lacks ≡ columns * 70 → Reached row_lacks column_lacks which
+    visited-reached second = which-reached second which visited-within
+
+    pub visited-agrees : (parity_marks : List ℕ)
+        → (eqb (get_or parity_marks (number_of rows which) 0) 4 || all_zero (difference_of row_lacks column_lacks which))
+        ≡ agrees_at (row_lacks ++ column_lacks) parity_marks k
+    unfolding agrees_at
+    visited-agrees parity_marks =
+        ap₂ (λ (n : ℕ) (line : List ℕ). eqb (get_or parity_marks n 0) 4 || all_zero line) visited-number
+        (which-difference which visited-within ∙ ap (bytes_at (row_lacks ++ column_lacks)) visited-number)

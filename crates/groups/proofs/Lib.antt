@@ -1,6 +1,5 @@
 -- Laws of groups on lent buffers.
 pub mod Walk
-pub mod Seeking
 pub mod Numbers
 pub mod Found
 pub mod Counts

@@ -7,8 +7,8 @@ use native.Mathlib.Numerals.{add-one}
 use native.Mathlib.Omega.{arith}
 use borrow.Author.Tests.{eq-eqb, ne_eqb}
 use lib.Dec.{eqb}
-use lib.ListN.{length, take, drop, get_or, set, drop_of_length-le}
-use lib.Seq.{drop-cons, set-get_or, length-take-le}
+use lib.ListN.{length, drop, get_or, set, drop_of_length-le}
+use lib.Seq.{drop-cons, set-get_or}
 use Rattle.gf2.specs.Word.{flip}
 use Rattle.gf2.proofs.Weight.{length-flip}
 use Rattle.linecode.specs.Places.{line_places, places, line_of}
@@ -18,10 +18,6 @@ use Rattle.scheme.specs.Visit.{State, cell_at, is_faulty, try_places, try_lines}
 use Rattle.rectangle.specs.Store.{line_layer, in_bytes}
 use Rattle.rectangle.proofs.Spare.{length-places, places-flipped}
 use Rattle.groups.proofs.Rooms.{read-long}
-
--- up to six places out of an array for six
-pub tries-length : (n : ℕ) (l : List ℕ) → n ≤ 6 → length l ≡ 6 → length (take n l) ≡ n
-tries-length n l h e = length-take-le n l (omega arith)
 
 -- ---- one line tries the places in turn
 pub record Searching (line : List ℕ) (ps : List ℕ) (n j : ℕ) : Type 0 where

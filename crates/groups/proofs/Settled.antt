@@ -7,6 +7,7 @@ use native.Mathlib.Omega.{arith}
 use borrow.Author.Tests.{eqb-true}
 use lib.Dec.{eqb}
 use lib.ListN.{length, get_or, set}
+use Rattle.std.specs.Prelude.{Some, None, slice_get}
 use Rattle.gf2.specs.Word.{Word, ◌⊕◌, zeros}
 use Rattle.gf2.proofs.Xor.{xor_comm, xor_assoc, xor_self, length-xor-same}
 use Rattle.gf2.proofs.Crc.{zeros-xor}
@@ -18,15 +19,20 @@ use Rattle.scheme.proofs.Sums.{sum-split}
 use Rattle.groups.specs.Lent.{faulty_among}
 
 -- a list of one, by its first
-one_only : (l : List ℕ) → length l ≡ 1 → l ≡ get_or l 0 0 ∷ []
-one_only [] e = let z : ⊥ = omega arith in absurd z
-one_only (n ∷ []) e = refl
-one_only (n ∷ m ∷ l) e = let z : ⊥ = omega arith in absurd z
+pub first-only : (l : List ℕ) (n : ℕ) → length l ≡ 1 → Some n ≡ slice_get l 0 → l ≡ n ∷ []
+first-only [] n e h = cc
+first-only (m ∷ []) n e h = cc
+first-only (m ∷ k ∷ l) n e h = absurd (omega arith)
+
+-- a list with no first has none
+pub no-first : (l : List ℕ) → None ≡ slice_get l 0 → length l ≡ 0
+no-first [] h = refl
+no-first (m ∷ l) h = cc
 
 -- the only faulty line of some is one of them, and faulty
-module _ (marks ms : List ℕ) (one : length (faulty_among marks ms) ≡ 1) (n : ℕ) (n-is : n ≡ get_or (faulty_among marks ms) 0 0) where
+module _ (marks ms : List ℕ) (one : length (faulty_among marks ms) ≡ 1) (n : ℕ) (n-is : Some n ≡ slice_get (faulty_among marks ms) 0) where
   pub only-faulty-line : faulty_among marks ms ≡ n ∷ []
-  only-faulty-line = one_only (faulty_among marks ms) one ∙ ap (λ (m : ℕ). m ∷ []) (sym n-is)
+  only-faulty-line = first-only (faulty_among marks ms) n one n-is
 
   pub only-member : (n ∈ ms) × (get_or marks n 0 ≡ 4)
   unfolding faulty_among

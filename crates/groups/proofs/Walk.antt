@@ -1,52 +1,36 @@
--- A walk over a group's lines, from the first on at equal steps.
-use mathlib.Core.Path.{◌≡◌, ap}
+-- The lines of a group that are left, from one of them on at equal steps.
+use mathlib.Core.Path.{◌≡◌, sym, ap, ap₂, ◌∙◌}
 use mathlib.Core.Bool.{Bool, cond}
 use mathlib.Core.List.{List, [], ◌∷◌}
 use Prim.Native.Nat.{ℕ, suc, ◌+◌, ◌-◌, ◌*◌, ◌≤◌, ◌<◌}
-use native.Mathlib.Nat.{mul-le-mul_right}
 use native.Mathlib.Omega.{arith}
 use borrow.Author.Tests.{ne_eqb}
 use lib.Dec.{eqb}
 use lib.ListN.{get_or}
 use Rattle.scheme.specs.Visit.{select}
 use Rattle.rectangle.specs.Store.{stride}
-use Rattle.groups.specs.Lent.{Inside, faulty_among}
-
--- after i lines of the group the walk stands at line n
-pub record Walking (first step count k n i : ℕ) : Type 0 where
-  pub inside : Inside first step count k
-  pub few : i ≤ count
-  pub here : n ≡ first + i * step
-
-pub walk_start : (first step count k : ℕ) → Inside first step count k → Walking first step count k first 0
-walk_start first step count k h = record { inside = h; few = omega arith; here = omega arith }
-
-module _ (first step count k n i : ℕ) (w : Walking first step count k n i) where
-  pub walk-in : i < count → n < k
-  walk-in h = omega (arith, w.inside.each i h, w.here)
-
-  pub walk-small : i < count → n + step ≤ 1000000
-  walk-small h = omega (arith, mul-le-mul_right step h, w.here, w.inside.small)
-
-  pub walk-next : i < count → Walking first step count k (n + step) (i + 1)
-  walk-next h = record { inside = w.inside; few = omega arith; here = omega (arith, w.here) }
-
-  -- what is left of the group
-  pub left-some : i < count → stride n step (count - i) ≡ n ∷ stride (n + step) step (count - (i + 1))
-  left-some h = ap (stride n step) (one h)
-    where
-      one : i < count → count - i ≡ suc (count - (i + 1))
-      one h = omega arith
-
-  pub left-none : count ≤ i → stride n step (count - i) ≡ []
-  left-none h = ap (stride n step) (none h)
-    where
-      none : count ≤ i → count - i ≡ 0
-      none h = omega arith
+use Rattle.groups.specs.Lent.{faulty_among}
 
 -- at the start all of it is left
 pub all_left : (count : ℕ) → count ≡ count - 0
 all_left count = omega arith
+
+-- ---- the lines left after the first i
+abbrev pub left : ℕ → ℕ → ℕ → ℕ → List ℕ
+left first step count i = stride (first + i * step) step (count - i)
+
+module _ (first step count : ℕ) where
+  pub left_all : stride first step count ≡ left first step count 0
+  left_all = ap₂ (λ (n m : ℕ). stride n step m) (omega arith) (omega arith)
+
+  pub left-next : (i n : ℕ) → n ≡ first + i * step → i < count → left first step count i ≡ n ∷ left first step count (i + 1)
+  left-next i n here h =
+      let one : count - i ≡ suc (count - (i + 1)) = omega arith in
+      let on : n + step ≡ first + (i + 1) * step = omega arith in
+      ap₂ (λ (m k : ℕ). stride m step k) (sym here) one ∙ ap (λ (m : ℕ). n ∷ stride m step (count - (i + 1))) on
+
+  pub left_end : (i : ℕ) → count ≤ i → left first step count i ≡ []
+  left_end i h = let none : count - i ≡ 0 = omega arith in ap (stride (first + i * step) step) none
 
 -- ---- the faulty lines among those left
 module _ (marks : List ℕ) (n : ℕ) (rest : List ℕ) where

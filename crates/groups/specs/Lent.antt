@@ -1,5 +1,5 @@
 -- What the functions of one visit ask of lent buffers, and what they make of the store in them.
-use Rattle.std.specs.Prelude.{◌≡◌, Bool, cond, ◌||◌, List, ◌++◌, ℕ, zero, suc, ◌+◌, ◌-◌, ◌*◌, ◌≤◌, ◌<◌, eqb, ltb, length, get_or, take}
+use Rattle.std.specs.Prelude.{◌≡◌, Bool, cond, ◌||◌, List, ◌++◌, ℕ, zero, suc, ◌+◌, ◌-◌, ◌*◌, ◌≤◌, ◌<◌, eqb, ltb, length, get_or}
 use Rattle.gf2.specs.Word.{Word, ◌⊕◌}
 use Rattle.linecode.specs.Places.{line_places, line_of}
 use Rattle.linecode.specs.Code.{up_from}
@@ -26,12 +26,6 @@ pub record Inside (first step count k : ℕ) : Type 0 where
 -- those of some lines that are marked faulty
 unfoldable pub faulty_among : List ℕ → List ℕ → List ℕ
 faulty_among marks members = select (λ n. eqb (get_or marks n 0) 4) members
-
--- places of a line in an array with room for six: all of them, or more than six are there
-pub record Listed (all : List ℕ) (count : ℕ) (array : List ℕ) : Type 0 where
-  pub room : length array ≡ 6
-  pub few : count ≤ 6 → take count array ≡ all
-  pub many : 6 < count → 6 < length all
 
 -- every byte of a line is 0
 unfoldable pub all_zero : List ℕ → Bool

@@ -2,9 +2,9 @@
 use mathlib.Core.Path.{◌≡◌, refl, sym}
 use mathlib.Core.Bool.{Bool, true, false}
 use mathlib.Core.List.{List}
-use Prim.Native.Nat.{ℕ, ◌*◌, ◌≤◌, ◌<◌}
+use Prim.Native.Nat.{ℕ, ◌*◌, ◌<◌}
 use native.Mathlib.Omega.{arith}
-use borrow.Author.Tests.{eq-eqb, ne_eqb, eqb-true, eqb-false, lt-ltb, le-ltb, ltb-true}
+use borrow.Author.Tests.{eq-eqb, ne_eqb, eqb-true, eqb-false, lt-ltb, ltb-true}
 use lib.Dec.{eqb, ltb}
 use lib.ListN.{length}
 use Rattle.linecode.specs.Places.{line_bytes}
@@ -14,23 +14,11 @@ use Rattle.rectangle.proofs.Tests.{passed}
 use Rattle.local_decoding.specs.Lookup.{one_refusal, OneRead, read_one}
 
 module _ (rows columns : ℕ) (lines row_table column_table : List ℕ) (n : ℕ) (work : Buffers) (line : List ℕ) where
-  -- ---- each way out
+  -- ---- no test fails
   module _ (r : ℕ)
       (is : r ≡ repair_refusal rows columns lines row_table column_table work.lines work.marks work.row_table
       work.column_table) where
-    pub refused-by-repair : (r ≡ 0 → ⊥) → r ≡ one_refusal rows columns lines row_table column_table n work line
-    unfolding one_refusal
-    refused-by-repair d = rw (sym is, ne_eqb r 0 d)
-
     module _ (none : r ≡ 0) where
-      pub refused-line : (length line ≡ 70 → ⊥) → 7 ≡ one_refusal rows columns lines row_table column_table n work line
-      unfolding one_refusal line_bytes
-      refused-line d = rw (sym is, none, ne_eqb (length line) 70 d)
-
-      pub refused-number : length line ≡ 70 → rows * columns ≤ n → 8 ≡ one_refusal rows columns lines row_table column_table n work line
-      unfolding one_refusal line_bytes
-      refused-number e h = rw (sym is, none, eq-eqb (length line) 70 e, le-ltb n (rows * columns) h)
-
       pub nothing-refused : length line ≡ 70 → n < rows * columns → 0 ≡ one_refusal rows columns lines row_table column_table n work line
       unfolding one_refusal line_bytes
       nothing-refused e h = rw (sym is, none, eq-eqb (length line) 70 e, lt-ltb n (rows * columns) h)

@@ -1,5 +1,5 @@
 -- A group's lines read alone, each into its own place.
-use mathlib.Core.Path.{◌≡◌, refl, sym, ap, subst, ◌∙◌}
+use mathlib.Core.Path.{◌≡◌, sym, ap, subst, ◌∙◌}
 use mathlib.Core.List.{List}
 use Prim.Native.Nat.{ℕ, ◌+◌, ◌*◌, ◌≤◌, ◌<◌}
 use native.Mathlib.Decide.{ℕ_discrete}
@@ -11,50 +11,34 @@ use Rattle.linecode.specs.Places.{line_of}
 use Rattle.linecode.specs.declared.alone.Reading.{Reading}
 use Rattle.rectangle.specs.Store.{bytes_at, alone_at, in_bytes, put_bytes}
 use Rattle.rectangle.proofs.Spare.{seventy-line_of}
-use Rattle.groups.proofs.Walk.{Walking, walk_start, walk-in, walk-next}
+use Rattle.groups.specs.Lent.{Inside}
 use Rattle.visiting.proofs.Stores.{put-here, put-elsewhere}
-use Rattle.lookup.specs.Lent.{Readable, ReadAlone}
+use Rattle.lookup.specs.Lent.{ReadAlone}
 
-pub record Filling (lines out₀ marks₀ : List ℕ) (first step count : ℕ) (out marks : List ℕ) (n i : ℕ) : Type 0 where
-  pub walk : Walking first step count (length marks) n i
+pub record Filling (lines out₀ marks₀ : List ℕ) (first step count : ℕ) (out marks : List ℕ) (i : ℕ) : Type 0 where
+  pub inside : Inside first step count (length marks)
+  pub few : i ≤ count
   pub line_bytes : length lines ≡ length marks * 70
   pub out_bytes : length out ≡ length marks * 70
   pub same_out : length out ≡ length out₀
   pub same-marks : length marks ≡ length marks₀
   pub done : ReadAlone lines first step i out marks
 
-pub filling-start : (lines out marks : List ℕ) (first step count : ℕ) → Readable lines out marks first step count
-    → Filling lines out marks first step count out marks first 0
-filling-start lines out marks first step count r =
-    record {
-      walk = walk_start first step count (length marks) r.inside;
-      line_bytes = r.line_bytes;
-      out_bytes = r.out_bytes;
-      same_out = refl;
-      same-marks = refl;
-      done =
-          record {
-            bytes = λ k h. let z : ⊥ = omega arith in absurd z;
-            marked = λ k h. let z : ⊥ = omega arith in absurd z;
-          };
-    }
-
-module _ (lines out₀ marks₀ : List ℕ) (first step count : ℕ) (out marks : List ℕ) (n i : ℕ)
-    (f : Filling lines out₀ marks₀ first step count out marks n i) (more : i < count) where
+module _ (lines out₀ marks₀ : List ℕ) (first step count : ℕ) (out marks : List ℕ) (i : ℕ)
+    (f : Filling lines out₀ marks₀ first step count out marks i) (more : i < count) (n : ℕ) (n-is : n ≡ first + i * step) where
   pub below : n < length marks
-  below = walk-in first step count (length marks) n i f.walk more
+  below = omega (arith, f.inside.each i more, n-is)
 
   -- an earlier line of the group is another one
   earlier : (k : ℕ) → k < i → first + k * step ≡ n → ⊥
-  earlier k h e = omega (arith, e, f.walk.here, mul-le-mul_right step h, f.walk.inside.apart)
+  earlier k h e = omega (arith, e, n-is, mul-le-mul_right step h, f.inside.apart)
 
   pub filling-next : (r : Reading) (out' : List ℕ) → r ≡ in_bytes (alone_at lines n) → out' ≡ put_bytes out n r.line
-      → length out' ≡ length out → Filling lines out₀ marks₀ first step count out' (set marks n r.mark) (n + step) (i + 1)
+      → length out' ≡ length out → Filling lines out₀ marks₀ first step count out' (set marks n r.mark) (i + 1)
   filling-next r out' e put same =
       record {
-        walk =
-            subst (λ (k : ℕ). Walking first step count k (n + step) (i + 1)) (sym kept)
-            (walk-next first step count (length marks) n i f.walk more);
+        inside = subst (Inside first step count) (sym kept) f.inside;
+        few = omega arith;
         line_bytes = f.line_bytes ∙ ap (λ (k : ℕ). k * 70) (sym kept);
         out_bytes = same ∙ f.out_bytes ∙ ap (λ (k : ℕ). k * 70) (sym kept);
         same_out = same ∙ f.same_out;
@@ -72,10 +56,10 @@ module _ (lines out₀ marks₀ : List ℕ) (first step count : ℕ) (out marks 
       full = ap length line-is ∙ seventy-line_of (alone_at lines n).line
 
       here : (k : ℕ) → k ≡ i → first + k * step ≡ n
-      here k p = ap (λ (j : ℕ). first + j * step) p ∙ sym f.walk.here
+      here k p = ap (λ (j : ℕ). first + j * step) p ∙ sym n-is
 
       inside : (k : ℕ) → k < i → first + k * step < length marks
-      inside k h = f.walk.inside.each k (omega (arith, f.walk.few))
+      inside k h = f.inside.each k (omega arith)
 
       bytes : (k : ℕ) → k < i + 1 → Dec (k ≡ i) → bytes_at out' (first + k * step) ≡ line_of (alone_at lines (first + k * step)).line
       bytes k h (yes p) =
@@ -95,9 +79,3 @@ module _ (lines out₀ marks₀ : List ℕ) (first step count : ℕ) (out marks 
       marked k h (no q) =
           let before : k < i = omega arith in
           get_or-set_other marks n (first + k * step) r.mark 0 (earlier k before) ∙ f.done.marked k before
-
-pub filling-end : (lines out₀ marks₀ : List ℕ) (first step count : ℕ) (out marks : List ℕ) (n i : ℕ)
-    → Filling lines out₀ marks₀ first step count out marks n i → count ≤ i → ReadAlone lines first step count out marks
-filling-end lines out₀ marks₀ first step count out marks n i f h =
-    let all : i ≡ count = omega (arith, f.walk.few) in
-    subst (λ (k : ℕ). ReadAlone lines first step k out marks) all f.done

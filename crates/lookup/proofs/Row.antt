@@ -1,5 +1,5 @@
 -- Line n by its row's visit: the row's lines as read, its parity line as read, and what the visit leaves in the buffers.
-use mathlib.Core.Path.{◌≡◌, refl, sym, ap, ap₂, subst, ◌∙◌}
+use mathlib.Core.Path.{◌≡◌, sym, ap, ap₂, subst, ◌∙◌}
 use mathlib.Core.Logic.{◌⊎◌, inl, inr}
 use mathlib.Core.Bool.{true, false}
 use mathlib.Core.List.{List, []}
@@ -27,11 +27,11 @@ use Rattle.rectangle.proofs.Stride.{stride-index}
 use Rattle.groups.specs.Lent.{Inside, Picked, number_of, members_of}
 use Rattle.groups.specs.declared.tracked.Which.{Which}
 use Rattle.groups.proofs.Numbers.{row_of}
-use Rattle.visiting.specs.Lent.{store_in, Lent, group_at, Untouched, Mended, Becomes}
+use Rattle.visiting.specs.Lent.{store_in, group_at, Untouched, Mended, Becomes}
 use Rattle.visiting.proofs.Stores.{store_length, store_at}
 use Rattle.local_decoding.specs.Lookup.{after_row}
 use Rattle.local_decoding.proofs.Cells.{row-visited}
-use Rattle.lookup.specs.Lent.{Readable, ReadAlone, Wanted}
+use Rattle.lookup.specs.Lent.{ReadAlone, Wanted}
 
 module _ (rows columns : ℕ) (lines row_table out₀ marks₀ : List ℕ) (n : ℕ) (w : Wanted rows columns lines row_table out₀ marks₀ n) where
   pub some-columns : 0 < columns
@@ -44,21 +44,6 @@ module _ (rows columns : ℕ) (lines row_table out₀ marks₀ : List ℕ) (n : 
   module _ (which : Which) (first step count : ℕ) (chosen : Picked rows columns which first step count) where
     pub row-chosen : number_of rows which ≡ n / columns → stride first step count ≡ row columns (n / columns)
     row-chosen e = chosen.numbered.lines ∙ ap (members_of rows columns) e ∙ row_of rows columns (n / columns) row_listed
-
-    pub row_inside : (marks : List ℕ) → length marks ≡ length marks₀ → Inside first step count (length marks)
-    row_inside marks e = subst (Inside first step count) (sym (e ∙ w.mark_bytes)) chosen.numbered.inside
-
-    pub row-readable : Readable lines out₀ marks₀ first step count
-    row-readable =
-        record {
-          line_bytes = w.line_bytes ∙ ap (λ (k : ℕ). k * 70) (sym w.mark_bytes);
-          out_bytes = w.out_bytes ∙ ap (λ (k : ℕ). k * 70) (sym w.mark_bytes);
-          inside = row_inside marks₀ refl;
-        }
-
-    pub row-lent : (out marks : List ℕ) → length out ≡ length out₀ → length marks ≡ length marks₀ → Lent out marks first step count
-    row-lent out marks e f =
-        record { room = e ∙ row-readable.out_bytes ∙ ap (λ (k : ℕ). k * 70) (sym f); inside = row_inside marks f }
 
   g : Group
   g = row_group columns row_table (n / columns)

@@ -4,17 +4,18 @@ use mathlib.Core.List.{List}
 use Prim.Native.Nat.{ℕ, ◌*◌, ◌<◌}
 use native.Mathlib.Omega.{arith}
 use lib.ListN.{length, get_or, set}
+use Rattle.std.specs.Prelude.{Some, None, slice_get}
 use Rattle.gf2.specs.Word.{Word, ◌⊕◌}
 use Rattle.linecode.specs.Places.{line_places, places, line_of}
 use Rattle.scheme.specs.Visit.{Group, State, line_at, faulty_of, settle}
 use Rattle.scheme.specs.Demand3.{◌∈◌}
 use Rattle.rectangle.specs.Store.{bytes_at, stride}
 use Rattle.rectangle.proofs.Spare.{places-line_of}
-use Rattle.groups.specs.Lent.{Room, Carried, Some, Inside, Numbered, faulty_among, members_of, group_of}
+use Rattle.groups.specs.Lent.{Room, Carried, Some as SomeStore, Inside, Numbered, faulty_among, members_of, group_of}
 use Rattle.groups.proofs.Numbers.{members-rising, members-inside}
 use Rattle.groups.proofs.Held.{held-count, held-faulty, held_bytes}
 use Rattle.scheme.proofs.Steps.{not-one}
-use Rattle.groups.proofs.Settled.{only-faulty-line, only-member, rebuilt-word, settled, rebuilt-is, rebuilt-long}
+use Rattle.groups.proofs.Settled.{no-first, only-faulty-line, only-member, rebuilt-word, settled, rebuilt-is, rebuilt-long}
 
 pub still-inside : (first step count k m : ℕ) → m ≡ k → Inside first step count k → Inside first step count m
 still-inside first step count k m e i = subst (Inside first step count) (sym e) i
@@ -37,20 +38,25 @@ module _ (rows columns : ℕ) (out marks lacks faulty : List ℕ) (room : Room r
         subst (Carried rows columns parity out marks lacks faulty)
         (sym (not-one (group_of rows columns parity k) s (λ (e : length (faulty_of s (members_of rows columns k)) ≡ 1). d (number_is ∙ e)))) c
 
-  module _ (one : get_or faulty k 0 ≡ 1) (n : ℕ) (n-is : n ≡ get_or (faulty_among marks (stride first step count)) 0 0) where
+    -- none
+    pub unsettled-none : None ≡ slice_get (faulty_among marks (stride first step count)) 0
+        → Carried rows columns parity out marks lacks faulty (settle (group_of rows columns parity k) s)
+    unsettled-none e = unsettled (λ one. omega (arith, no-first _ e, ap length same-faulty, number_is))
+
+  module _ (one : get_or faulty k 0 ≡ 1) (n : ℕ) (n-is : Some n ≡ slice_get (faulty_among marks (stride first step count)) 0) where
     only : (parity : ℕ → Word) (s : State) → Carried rows columns parity out marks lacks faulty s
         → length (faulty_among marks (stride first step count)) ≡ 1
     only parity s c = ap length (same-faulty parity s c) ∙ sym (number_is parity s c) ∙ one
 
-    member : Some rows columns out marks lacks faulty → n ∈ members_of rows columns k
+    member : SomeStore rows columns out marks lacks faulty → n ∈ members_of rows columns k
     member held =
         subst (λ (l : List ℕ). n ∈ l) chosen.lines
         (only-member marks (stride first step count) (only held.0 held.1 held.2) n n-is).0
 
-    pub only-inside : Some rows columns out marks lacks faulty → n < rows * columns
+    pub only-inside : SomeStore rows columns out marks lacks faulty → n < rows * columns
     only-inside held = members-inside rows columns some-columns n k chosen.listed (member held)
 
-    pub only-faulty : Some rows columns out marks lacks faulty → get_or marks n 0 ≡ 4
+    pub only-faulty : SomeStore rows columns out marks lacks faulty → get_or marks n 0 ≡ 4
     only-faulty held = (only-member marks (stride first step count) (only held.0 held.1 held.2) n n-is).1
 
     module _ (parity : ℕ → Word) (s : State) (c : Carried rows columns parity out marks lacks faulty s) (line lack rebuilt : List ℕ)

@@ -16,12 +16,12 @@ use Rattle.linecode.specs.declared.alone.Reading.{Reading}
 use Rattle.scheme.specs.Visit.{Group, State, line_at, sum}
 use Rattle.scheme.specs.Repair.{faulty_count}
 use Rattle.scheme.specs.Parity.{read_parity, unusable, parity_after}
-use Rattle.rectangle.specs.Store.{line_layer, bytes_at, buffer_of, in_bytes, put_bytes}
+use Rattle.rectangle.specs.Store.{line_layer, bytes_at, buffer_of, in_bytes, put_bytes, row_group, column_group}
 use Rattle.rectangle.specs.Repair.{table_after}
 use Rattle.rectangle.proofs.Buffer.{table_of}
 use Rattle.rectangle.proofs.Spare.{zero-line}
 use Rattle.groups.proofs.Added.{put-length, put_same, put_other}
-use Rattle.parity.specs.Lent.{start_of}
+use Rattle.parity.specs.Lent.{ParitiesIn, start_of}
 
 -- ---- r lines of so many are written
 pub record Filled (line : ℕ → Word) (total : ℕ) (table₀ table : List ℕ) (r : ℕ) : Type 0 where
@@ -31,10 +31,6 @@ pub record Filled (line : ℕ → Word) (total : ℕ) (table₀ table : List ℕ
   pub left : (k : ℕ) → r ≤ k → k < total → bytes_at table k ≡ bytes_at table₀ k
 
 module _ (line : ℕ → Word) (total : ℕ) (table₀ : List ℕ) where
-  pub filled-start : length table₀ ≡ total * 70 → Filled line total table₀ table₀ 0
-  filled-start e =
-      record { few = omega arith; whole = e; filled = λ k h. let z : ⊥ = omega arith in absurd z; left = λ k l h. refl }
-
   module _ (table : List ℕ) (r : ℕ) (f : Filled line total table₀ table r) where
     -- one line more, in any table that has it and agrees elsewhere
     more : (after : List ℕ) → r < total → length after ≡ total * 70 → bytes_at after r ≡ line_of (line r)
@@ -74,9 +70,6 @@ pub record Marked (mark : ℕ → ℕ) (b : ℕ) (marks₀ marks : List ℕ) (r 
   pub long : length marks ≡ 1024
   pub kept : (k : ℕ) → k < r → get_or marks (b + k) 0 ≡ mark k
   pub before : (k : ℕ) → k < b → get_or marks k 0 ≡ get_or marks₀ k 0
-
-pub marked_start : (mark : ℕ → ℕ) (b : ℕ) (marks : List ℕ) → length marks ≡ 1024 → Marked mark b marks marks 0
-marked_start mark b marks e = record { long = e; kept = λ k h. let z : ⊥ = omega arith in absurd z; before = λ k h. refl }
 
 pub marked_next : (mark : ℕ → ℕ) (b : ℕ) (marks₀ marks : List ℕ) (r : ℕ) → Marked mark b marks₀ marks r → (n m : ℕ) (after : List ℕ) → n ≡ b + r
     → n < 1024 → after ≡ set marks n m → m ≡ mark r → Marked mark b marks₀ after (r + 1)
@@ -139,6 +132,13 @@ module _ (g : Group) (read : Reading) (read_is : read ≡ in_bytes (read_parity 
     handed-afresh e table r fresh =
         let both = sym afresh-test ∙ e in
         rw both (fresh ((and-eq-true_iff (unusable line_layer g) (eqb (faulty_count s) 0)).0 both).0)
+
+-- the parity lines of the rows and of the columns stand in their tables
+pub rows-in : (rows columns : ℕ) (table : List ℕ) → ParitiesIn table rows (row_group columns table)
+rows-in rows columns table k h = refl
+
+pub columns-in : (rows columns : ℕ) (table : List ℕ) → ParitiesIn table columns (column_group rows columns table)
+columns-in rows columns table k h = refl
 
 -- a table handed over line by line
 pub table-after : (s : State) (g : ℕ → Group) (total : ℕ) (table : List ℕ)

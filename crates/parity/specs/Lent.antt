@@ -6,11 +6,15 @@ use Rattle.linecode.specs.Places.{line_places, line_of}
 use Rattle.linecode.specs.Entry.{reading}
 use Rattle.scheme.specs.Visit.{Group, State, line_at, sum}
 use Rattle.scheme.specs.Parity.{read_parity, unusable}
-use Rattle.rectangle.specs.Store.{line_layer, bytes_at}
+use Rattle.rectangle.specs.Store.{line_layer, bytes_at, places_at}
 
 -- what a group's difference starts from: its parity line as read, or zeros where that is faulty
 unfoldable pub start_of : Group → Word
 start_of g = cond (unusable line_layer g) (zeros line_places) (read_parity line_layer g).line
+
+-- a table has the parity lines of some groups, the first of them as line 0
+abbrev pub ParitiesIn : List ℕ → ℕ → (ℕ → Group) → Type 0
+ParitiesIn table total g = (k : ℕ) → k < total → (g k).parity ≡ places_at table k
 
 -- the parity lines of some groups are read, the first of them as group b in visiting order: their differences start in their own table,
 -- and their marks are kept; those of the groups before stay

@@ -3,6 +3,7 @@ use mathlib.Core.Path.{◌≡◌, refl, sym, ap, ◌∙◌}
 use mathlib.Core.List.{List, [], ◌∷◌}
 use Prim.Native.Nat.{ℕ, ◌+◌, ◌*◌, ◌<◌}
 use native.Mathlib.Omega.{arith}
+use Rattle.std.specs.Prelude.{Option, Some, None, slice_get}
 use lib.Dec.{eqb}
 use lib.ListN.{length, get_or, set, get_or-map}
 use Rattle.scheme.specs.Layer.{Cell}
@@ -16,7 +17,7 @@ use Rattle.groups.specs.declared.tracked.Which.{Which}
 use Rattle.groups.specs.declared.tracked.Which.TheVariants.{Row, Column}
 use Rattle.groups.proofs.Numbers.{members-inside}
 use Rattle.scheme.proofs.Steps.{not-one}
-use Rattle.groups.proofs.Settled.{only-faulty-line, only-member, settled}
+use Rattle.groups.proofs.Settled.{no-first, only-faulty-line, only-member, settled}
 use Rattle.peeling.specs.Lent.{marked_faulty, Counted, Visits}
 use Rattle.peeling.proofs.Touching.{some-columns}
 
@@ -43,16 +44,16 @@ module _ (rows columns : ℕ) (marks : List ℕ) (which chosen : Which) (same : 
   pub chosen-inside : length marks ≡ rows * columns → Inside first step count (length marks)
   chosen-inside e = rw e picked.numbered.inside
 
-  pub chosen-line : (n : ℕ) → n ≡ get_or (faulty_among marks (stride first step count)) 0 0
-      → n ≡ get_or (faulty_among marks (members_of rows columns (number_of rows which))) 0 0
-  chosen-line n e =
+  pub chosen-line : (r : Option ℕ) → r ≡ slice_get (faulty_among marks (stride first step count)) 0
+      → r ≡ slice_get (faulty_among marks (members_of rows columns (number_of rows which))) 0
+  chosen-line r e =
       e
-      ∙ ap (λ (l : List ℕ). get_or (faulty_among marks l) 0 0)
+      ∙ ap (λ (l : List ℕ). slice_get (faulty_among marks l) 0)
       (picked.numbered.lines ∙ ap (λ (w : Which). members_of rows columns (number_of rows w)) same)
 
 module _ (rows columns : ℕ) (marks faulty : List ℕ) (counted : Counted rows columns marks faulty) (k : ℕ) (inside : k < rows + columns) where
   -- exactly one is faulty, and n is it
-  module _ (one : get_or faulty k 0 ≡ 1) (n : ℕ) (n-is : n ≡ get_or (faulty_among marks (members_of rows columns k)) 0 0) where
+  module _ (one : get_or faulty k 0 ≡ 1) (n : ℕ) (n-is : Some n ≡ slice_get (faulty_among marks (members_of rows columns k)) 0) where
     alone : length (faulty_among marks (members_of rows columns k)) ≡ 1
     alone = ap length (among marks (members_of rows columns k)) ∙ sym (counted.each k inside) ∙ one
 
@@ -85,11 +86,18 @@ module _ (rows columns : ℕ) (marks faulty : List ℕ) (counted : Counted rows 
 -- a visit of a group as the code makes it: its number is read, and where it is 1 the chosen line is rebuilt
 module _ (rows columns : ℕ) (marks faulty : List ℕ) (counted : Counted rows columns marks faulty) (which : Which)
     (within : Within rows columns which) where
-  pub picked_visited : get_or faulty (number_of rows which) 0 ≡ 1
-      → Visits (members_of rows columns (number_of rows which)) marks
-      (set marks (get_or (faulty_among marks (members_of rows columns (number_of rows which))) 0 0) 3)
-  picked_visited one =
-      one-visited rows columns marks faulty counted (number_of rows which) (listed rows columns which within) one _ refl
+  -- a group with no first faulty line has none
+  pub passed_by : None ≡ slice_get (faulty_among marks (members_of rows columns (number_of rows which))) 0
+      → Visits (members_of rows columns (number_of rows which)) marks marks
+  passed_by e =
+      none-visited rows columns marks faulty counted (number_of rows which) (listed rows columns which within)
+      (λ (one : get_or faulty (number_of rows which) 0 ≡ 1).
+      omega (
+        arith,
+        no-first _ e,
+        ap length (among marks (members_of rows columns (number_of rows which))),
+        counted.each (number_of rows which) (listed rows columns which within),
+      ))
 
   pub passed_over : (get_or faulty (number_of rows which) 0 ≡ 1 → ⊥) → Visits (members_of rows columns (number_of rows which)) marks marks
   passed_over d = none-visited rows columns marks faulty counted (number_of rows which) (listed rows columns which within) d

@@ -1,5 +1,6 @@
 -- What the functions of the forecast ask of marks and counts, and what they make of the store that has these marks.
-use Rattle.std.specs.Prelude.{◌≡◌, Bool, cond, ◌&&◌, List, ℕ, ◌+◌, ◌*◌, ◌≤◌, ◌<◌, eqb, ltb, length, get_or}
+use Rattle.std.specs.Prelude.{◌≡◌, Bool, cond, ◌&&◌, List, Result, Ok, Err, ℕ, ◌+◌, ◌*◌, ◌≤◌, ◌<◌, eqb, ltb, length, get_or}
+use Rattle.rectangle.specs.declared.answers.Refusal.{Refusal}
 use Rattle.scheme.specs.Visit.{Group, State, select, visit}
 use Rattle.scheme.specs.Repair.{marks_of, pass, passes_from}
 use Rattle.scheme.specs.Forecast.{never, flagged}
@@ -57,3 +58,8 @@ pub record RanPasses (rows columns : ℕ) (marks marks' : List ℕ) (passes : �
 -- the mark that a byte of the pattern gives
 abbrev pub mark_of : ℕ → ℕ
 mark_of byte = (flagged byte).mark
+
+-- the passes that a forecast answers: none where it is turned back
+abbrev pub passes_of : Result ℕ Refusal → ℕ
+passes_of (Ok passes) = passes
+passes_of (Err refusal) = 0

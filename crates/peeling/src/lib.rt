@@ -7,48 +7,41 @@ mod counts;
 mod passes;
 mod pattern;
 
-ghost use Rattle.std.specs.Prelude.{◌≡◌};
+ghost use Rattle.std.specs.Prelude.{◌≡◌, IfOk};
+ghost use Rattle.rectangle.specs.Answers.{answer_of};
 ghost use Rattle.forecast.specs.Forecast.{Forecast, forecast_refusal, forecast as forecast·};
+ghost use Rattle.peeling.specs.Lent.{passes_of};
 
-use rectangle::sizes;
+use rectangle::answers::Refusal;
+use rectangle::sizes::Sides;
 
-// What a forecast answers, and its passes.
-#[derive(Drop)]
-pub struct Foreseen {
-    pub answer: u32,
-    pub passes: usize,
-}
-
-// The first refusal that fits, or 0.
-fn refusal(rows: usize, columns: usize, pattern: &[u8], marks: &[u8]) -> u32
-    ensures { result ≡ forecast_refusal rows columns pattern.now marks.now }
+// The first refusal that fits, if any. Sizes and buffers come one by one here and below, as C hands them over.
+#[tactic(auto, using(rectangle::proofs::Area::area), unfolding(forecast::specs::Forecast::forecast_refusal, forecast::specs::Forecast::one_for_each))]
+fn check(rows: usize, columns: usize, pattern: &[u8], marks: &[u8]) -> Result<Sides, Refusal>
+    ensures answer { answer_of result ≡ forecast_refusal rows columns pattern.now marks.now }
+    ensures given { IfOk result (λ sides. (sides.rows ≡ rows) × (sides.columns ≡ columns)) }
 {
-    if !sizes::sides_fit(rows, columns) {
-        return 2;
+    let sides = Sides::new(rows, columns)?;
+    if pattern.len() != sides.lines() || marks.len() != sides.lines() {
+        return Err(Refusal::Room);
     }
-    if pattern.len() != rows * columns {
-        return 7;
-    }
-    if marks.len() != rows * columns {
-        return 7;
-    }
-    0
+    Ok(sides)
 }
 
-// From one byte for each line, 0 whole and anything else faulty: the marks, 0 whole, 3 rebuilt and 4 faulty, and the passes.
-#[tactic(auto, using(crate::proofs::Foreseeing::turned_back))]
-pub fn forecast(rows: usize, columns: usize, pattern: &[u8], marks: &mut [u8]) -> Foreseen
+// From one byte for each line, 0 whole and anything else faulty: the marks, 0 whole, 3 rebuilt and 4 faulty, and the number of passes.
+pub fn forecast(
+    rows: usize,
+    columns: usize,
+    pattern: &[u8],
+    marks: &mut [u8],
+) -> Result<usize, Refusal>
     ensures { ◌≡◌ {A = Forecast}
-        (record { answer = result.answer; passes = result.passes; marks = marks.new })
+        (record { answer = answer_of result; passes = passes_of result; marks = marks.new })
         (forecast· rows columns pattern.now marks.old) }
 {
-    let answer = refusal(rows, columns, pattern, marks);
-    if answer != 0 {
-        return Foreseen { answer, passes: 0 };
-    }
+    let sides = check(rows, columns, pattern, marks)?;
     pattern::mark_lines(pattern, marks);
     let mut faulty = [0u16; 1024];
-    counts::count_all(marks, &mut faulty, rows, columns);
-    let passes = passes::run_passes(marks, &mut faulty, rows, columns);
-    Foreseen { answer, passes }
+    counts::count_all(marks, &mut faulty, sides);
+    Ok(passes::run_passes(marks, &mut faulty, sides))
 }

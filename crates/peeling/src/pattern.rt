@@ -3,7 +3,7 @@
 ghost use Rattle.std.specs.Prelude.{◌≡◌, map, length};
 ghost use Rattle.peeling.specs.Lent.{mark_of};
 
-// The mark that a byte gives.
+// The mark that a byte gives: itself a byte, as C reads it.
 fn mark_of(byte: u8) -> u8
     ensures { result ≡ mark_of byte }
 {
@@ -15,9 +15,8 @@ pub fn mark_lines(pattern: &[u8], marks: &mut [u8])
     requires { length marks.old ≡ length pattern.now }
     ensures { marks.new ≡ map mark_of pattern.now }
 {
-    let mut n = 0;
-    while n < pattern.len() {
-        marks[n] = mark_of(pattern[n]);
-        n += 1;
+    // By index: of a mark that `iter_mut` lends to a `zip` the check does not know where it stands.
+    for (n, byte) in pattern.iter().enumerate() {
+        marks[n] = mark_of(*byte);
     }
 }

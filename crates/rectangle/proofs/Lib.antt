@@ -1,5 +1,6 @@
 -- Laws of the rectangle: lines in buffers, rows and columns.
 pub mod Members
+pub mod Numbers
 pub mod Stride
 pub mod Spare
 pub mod LineLayer

@@ -2,5 +2,7 @@
 // above, in the crates `tables`, `change` and `repair`. Document 01, "The rectangle".
 #![tactic(auto)]
 
+pub mod answers;
 pub mod lines;
 pub mod sizes;
+pub mod store;

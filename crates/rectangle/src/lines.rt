@@ -1,22 +1,114 @@
 // Lines in a lent buffer. The functions of this module are public because the crates above go through them alone; each asks that
-// the line lies inside the buffer, or that there are columns, which the entry points have tested.
-ghost use Rattle.std.specs.Prelude.{◌≡◌, suc, ◌*◌, ◌/◌, ◌%◌, ◌≤◌, ◌<◌, length};
+// the line lies inside the buffer, or that there are columns, which the entry points have tested. That a line lies inside is asked at each
+// call, as of an index into a slice: no type could promise it of the number and the buffer together.
+ghost use Rattle.std.specs.Prelude.{◌≡◌, ℕ, suc, ◌*◌, ◌/◌, ◌%◌, ◌≤◌, ◌<◌, length};
 ghost use Rattle.linecode.specs.Places.{places, xor_bytes};
-ghost use Rattle.line_table.specs.Table.{line_table};
 ghost use Rattle.sweep.specs.Sums.{both_sums};
 ghost use Rattle.rectangle.specs.Store.{bytes_at, put_bytes, put_line, alone_at};
 ghost use Rattle.rectangle.specs.Change.{add_to};
 
+use crate::sizes::Sides;
+use line_table::LineTable;
 use linecode::place;
 
-// The number of a row, and of a column: they are counted apart, so that neither table is reached with the other's number.
-#[derive(Clone, Copy)]
+// The number of a row, and of a column: two tuple structs, as document 01 names them, and not one with a parameter. They are counted apart,
+// so that neither table is reached with the other's number.
+#[derive(Clone, Copy, PartialEq, Eq)]
 pub struct RowIndex(pub usize);
 
-#[derive(Clone, Copy)]
+#[derive(Clone, Copy, PartialEq, Eq)]
 pub struct ColumnIndex(pub usize);
 
-// The row of line n: only here and in `column_of` does a line's number become a row's or a column's.
+// What rows and columns have in common: each has a line of its own in a table of parity lines, and in sums laid out as a table.
+pub trait GroupIndex: Copy + Drop {
+    ghost number: { Self → ℕ };
+
+    // The n-th row or column.
+    fn at(n: usize) -> Self
+        ensures { number result ≡ n };
+
+    fn number(self) -> usize
+        ensures { result ≡ number self };
+
+    // Its parity line.
+    final fn parity(self, table: &[u8]) -> [u8; 70]
+        requires { suc (number self) * 70 ≤ length table.now }
+        ensures { result ≡ bytes_at table.now (number self) }
+    {
+        line_at(table, self.number())
+    }
+
+    // Its parity line, written.
+    final fn put_parity(self, table: &mut [u8], line: [u8; 70])
+        requires { suc (number self) * 70 ≤ length table.old }
+        ensures { table.new ≡ put_bytes table.old (number self) line }
+    {
+        put_line(table, self.number(), line);
+    }
+
+    // A line put into its sum by exclusive or, byte by byte: whole bytes are added, where the spare bits of both are 0.
+    final fn add_to_sum(self, sums: &mut [u8], line: [u8; 70])
+        requires { suc (number self) * 70 ≤ length sums.old }
+        ensures { sums.new ≡ put_bytes sums.old (number self) (xor_bytes (bytes_at sums.old (number self)) line) }
+    {
+        let before = self.parity(sums);
+        let after = place::xor_bytes(before, line);
+        self.put_parity(sums, after);
+    }
+
+    // A line put into its parity line by exclusive or.
+    final fn add_to(self, table: &mut [u8], line: [u8; 70])
+        requires { suc (number self) * 70 ≤ length table.old }
+        ensures { table.new ≡ add_to table.old (number self) (places line) }
+    {
+        let parity = self.parity(table);
+        let sum = place::xor_lines(parity, line);
+        self.put_parity(table, sum);
+    }
+}
+
+impl GroupIndex for RowIndex {
+    ghost number = { λ row. row.0 };
+
+    fn at(n: usize) -> RowIndex {
+        RowIndex(n)
+    }
+
+    fn number(self) -> usize {
+        self.0
+    }
+}
+
+impl GroupIndex for ColumnIndex {
+    ghost number = { λ column. column.0 };
+
+    fn at(n: usize) -> ColumnIndex {
+        ColumnIndex(n)
+    }
+
+    fn number(self) -> usize {
+        self.0
+    }
+}
+
+impl Sides {
+    // The row of line n.
+    pub fn row_of(self, n: usize) -> RowIndex
+        ensures { result.0 ≡ n / self.columns }
+    {
+        row_of(self.columns, n)
+    }
+
+    // The column of line n.
+    pub fn column_of(self, n: usize) -> ColumnIndex
+        ensures { result.0 ≡ n % self.columns }
+    {
+        column_of(self.columns, n)
+    }
+}
+
+// The row of line n: only here and in `column_of` does a line's number become a row's or a column's. Both take a number, and stand beside
+// the methods of `Sides`, since docs/CHANGES.md names them.
 pub fn row_of(columns: usize, n: usize) -> RowIndex
     requires { 0 < columns }
     ensures { result.0 ≡ n / columns }
@@ -48,41 +140,18 @@ pub fn put_line(buffer: &mut [u8], n: usize, line: [u8; 70])
     ensures { buffer.new ≡ put_bytes buffer.old n line }
 {
     let at = n * 70;
-    let mut i = 0;
-    while i < 70 {
-        buffer[at + i] = line[i];
-        i += 1;
-    }
+    buffer[at..at + 70].copy_from_slice(&line);
 }
 
-// The parity line of a row.
-pub fn row_parity(row_table: &[u8], row: RowIndex) -> [u8; 70]
-    requires { suc row.0 * 70 ≤ length row_table.now }
-    ensures { result ≡ bytes_at row_table.now row.0 }
-{
-    let r = row.0;
-    line_at(row_table, r)
-}
-
-// The parity line of a column.
-pub fn column_parity(column_table: &[u8], column: ColumnIndex) -> [u8; 70]
-    requires { suc column.0 * 70 ≤ length column_table.now }
-    ensures { result ≡ bytes_at column_table.now column.0 }
-{
-    let c = column.0;
-    line_at(column_table, c)
-}
-
-// Line n of a buffer, whose sums are known, as it reads alone, written as line m of another: its mark.
+// Line n of a buffer, whose sums are known, as it reads alone, written as line m of another: its mark, which stays a byte, as C reads marks.
 pub fn read_into(
-    table: &[u64; 4096],
+    table: &LineTable,
     sums: u32,
     found: &[u8],
     n: usize,
     out: &mut [u8],
     m: usize,
 ) -> u8
-    requires table { table.now ≡ line_table }
     requires inside { (suc n * 70 ≤ length found.now) × (suc m * 70 ≤ length out.old) }
     requires summed { sums ≡ both_sums (places (bytes_at found.now n)) }
     ensures { (out.new ≡ put_line out.old m (alone_at found.now n).line)
@@ -97,74 +166,4 @@ pub fn read_into(
     let corrected = read.line;
     put_line(out, m, corrected);
     read.mark
-}
-
-// A line put into line k of some sums by exclusive or, byte by byte.
-fn add_line(sums: &mut [u8], k: usize, line: [u8; 70])
-    requires { suc k * 70 ≤ length sums.old }
-    ensures { sums.new ≡ put_bytes sums.old k (xor_bytes (bytes_at sums.old k) line) }
-{
-    let before = line_at(sums, k);
-    let after = place::xor_bytes(before, line);
-    put_line(sums, k, after);
-}
-
-// A line put into a row's sum by exclusive or, byte by byte: whole bytes are added, where the spare bits of both are 0.
-pub fn add_to_row_sum(row_sums: &mut [u8], row: RowIndex, line: [u8; 70])
-    requires { suc row.0 * 70 ≤ length row_sums.old }
-    ensures { row_sums.new
-        ≡ put_bytes row_sums.old row.0 (xor_bytes (bytes_at row_sums.old row.0) line) }
-{
-    let r = row.0;
-    add_line(row_sums, r, line);
-}
-
-// A line put into a column's sum by exclusive or, byte by byte.
-pub fn add_to_column_sum(column_sums: &mut [u8], column: ColumnIndex, line: [u8; 70])
-    requires { suc column.0 * 70 ≤ length column_sums.old }
-    ensures { column_sums.new
-        ≡ put_bytes column_sums.old column.0 (xor_bytes (bytes_at column_sums.old column.0) line) }
-{
-    let c = column.0;
-    add_line(column_sums, c, line);
-}
-
-// The parity line of a row, written.
-pub fn put_row_parity(row_table: &mut [u8], row: RowIndex, line: [u8; 70])
-    requires { suc row.0 * 70 ≤ length row_table.old }
-    ensures { row_table.new ≡ put_bytes row_table.old row.0 line }
-{
-    let r = row.0;
-    put_line(row_table, r, line);
-}
-
-// The parity line of a column, written.
-pub fn put_column_parity(column_table: &mut [u8], column: ColumnIndex, line: [u8; 70])
-    requires { suc column.0 * 70 ≤ length column_table.old }
-    ensures { column_table.new ≡ put_bytes column_table.old column.0 line }
-{
-    let c = column.0;
-    put_line(column_table, c, line);
-}
-
-// A line put into the parity line of a row by exclusive or.
-pub fn add_to_row(row_table: &mut [u8], row: RowIndex, line: [u8; 70])
-    requires { suc row.0 * 70 ≤ length row_table.old }
-    ensures { row_table.new ≡ add_to row_table.old row.0 (places line) }
-{
-    let r = row.0;
-    let parity = row_parity(row_table, RowIndex(r));
-    let sum = place::xor_lines(parity, line);
-    put_row_parity(row_table, RowIndex(r), sum);
-}
-
-// A line put into the parity line of a column by exclusive or.
-pub fn add_to_column(column_table: &mut [u8], column: ColumnIndex, line: [u8; 70])
-    requires { suc column.0 * 70 ≤ length column_table.old }
-    ensures { column_table.new ≡ add_to column_table.old column.0 (places line) }
-{
-    let c = column.0;
-    let parity = column_parity(column_table, ColumnIndex(c));
-    let sum = place::xor_lines(parity, line);
-    put_column_parity(column_table, ColumnIndex(c), sum);
 }

@@ -29,6 +29,11 @@ use Rattle.groups.proofs.Numbers.{by_number, any-numbered, members-inside}
 use Rattle.groups.proofs.Held.{held-count}
 use Rattle.groups.proofs.Joined.{first-at, second_at}
 use Rattle.parity.specs.Lent.{Started, MarksOf, Fresh, start_of}
+use denote.Enum.Bare.{sameb}
+use Rattle.rectangle.specs.declared.answers.Outcome.{Outcome}
+use Rattle.rectangle.specs.declared.answers.Outcome.TheVariants.{Done, Left, Differs}
+use Rattle.rectangle.specs.contracts.answers.Outcome.{the_type}
+use Rattle.rectangle.specs.Answers.{outcome_number}
 use Rattle.repair.specs.Lent.{RanPasses, Finished, all_groups}
 use Rattle.groups.proofs.Found.{found_group, found-row, found-column, found-members}
 use Rattle.repair.proofs.Groups.{starts_from, starts-zero, all-groups}
@@ -255,3 +260,9 @@ module _ (rows columns : ℕ) (out marks : List ℕ) (rect : Rectangular rows co
               → ◌≡◌ {A = StoreRepaired} (record { answer = a; passes = passed; lines = b; marks = c; row_table = d; column_table = x })
               (record { answer = a'; passes = passed; lines = b'; marks = c'; row_table = d'; column_table = x' })
           all-five a a' b b' c c' d d' x x' i j k l m = cc
+
+-- whether lines are left faulty, by the outcome
+pub left-test : (outcome : Outcome) → not (sameb the_type outcome Left) ≡ not (eqb (outcome_number outcome) 11)
+left-test Done = refl
+left-test Left = refl
+left-test Differs = refl

@@ -4,13 +4,16 @@ use mathlib.Core.Bool.{◌&&◌, and-eq-true_iff}
 use mathlib.Core.List.{List}
 use Prim.Native.Nat.{ℕ, ◌*◌}
 use native.Mathlib.Omega.{arith}
-use borrow.Author.Tests.{eqb-true, eq-eqb, ne_eqb}
+use borrow.Author.Tests.{eqb-true}
 use lib.Dec.{eqb}
 use lib.ListN.{length}
 use Rattle.linecode.specs.Places.{line_bytes}
+use Rattle.rectangle.specs.declared.answers.Refusal.{Refusal}
+use Rattle.rectangle.specs.Answers.{number_of}
 use Rattle.rectangle.specs.Refusals.{unless, holds, tables_fit, repair_refusal}
 use Rattle.rectangle.proofs.Groups.{sides}
-use Rattle.rectangle.proofs.Refusing.{size_tests, sizes-refused, sizes-then, sizes-next, SizesPass}
+use Rattle.rectangle.proofs.Refusing.{size_tests, sizes-refused, sizes-then, SizesPass}
+use Rattle.rectangle.proofs.Numbers.{number-not-zero}
 use Rattle.rectangle.proofs.Tests.{passed}
 use Rattle.groups.specs.Lent.{Rectangular}
 
@@ -22,42 +25,10 @@ module _ (rows columns : ℕ) (lines rt ct out marks ro co : List ℕ) where
   abbrev repair_tests : ℕ
   repair_tests = unless (tables_fit rows columns ro co) 6 last_tests
 
-  pub refused-sizes : (r : ℕ) → r ≡ size_tests rows columns lines rt ct → (r ≡ 0 → ⊥) → r ≡ repair_refusal rows columns lines rt ct out marks ro co
+  pub refused-sizes : (refusal : Refusal) → number_of refusal ≡ size_tests rows columns lines rt ct
+      → number_of refusal ≡ repair_refusal rows columns lines rt ct out marks ro co
   unfolding repair_refusal
-  refused-sizes r e d = sym (sizes-refused rows columns lines rt ct r repair_tests e d)
-
-  -- each test in turn
-  module _ (p : SizesPass rows columns lines rt ct) where
-    then-tests : repair_refusal rows columns lines rt ct out marks ro co ≡ repair_tests
-    unfolding repair_refusal
-    then-tests = sizes-next rows columns lines rt ct p repair_tests
-
-    pub refused-rows : (length ro ≡ rows * 70 → ⊥) → 6 ≡ repair_refusal rows columns lines rt ct out marks ro co
-    unfolding holds tables_fit line_bytes
-    refused-rows d = rw (then-tests, ne_eqb (length ro) (rows * 70) d)
-
-    module _ (r : length ro ≡ rows * 70) where
-      pub refused-columns : (length co ≡ columns * 70 → ⊥) → 6 ≡ repair_refusal rows columns lines rt ct out marks ro co
-      unfolding holds tables_fit line_bytes
-      refused-columns d = rw (then-tests, eq-eqb (length ro) (rows * 70) r, ne_eqb (length co) (columns * 70) d)
-
-      module _ (c : length co ≡ columns * 70) where
-        last : repair_refusal rows columns lines rt ct out marks ro co ≡ last_tests
-        unfolding holds tables_fit line_bytes
-        last = rw (then-tests, eq-eqb (length ro) (rows * 70) r, eq-eqb (length co) (columns * 70) c)
-
-        pub refused-out : (length out ≡ rows * columns * 70 → ⊥) → 7 ≡ repair_refusal rows columns lines rt ct out marks ro co
-        unfolding holds line_bytes
-        refused-out d = rw (last, ne_eqb (length out) (rows * columns * 70) d)
-
-        module _ (o : length out ≡ rows * columns * 70) where
-          pub refused-marks : (length marks ≡ rows * columns → ⊥) → 7 ≡ repair_refusal rows columns lines rt ct out marks ro co
-          unfolding holds line_bytes
-          refused-marks d = rw (last, eq-eqb (length out) (rows * columns * 70) o, ne_eqb (length marks) (rows * columns) d)
-
-          pub none-refused : length marks ≡ rows * columns → 0 ≡ repair_refusal rows columns lines rt ct out marks ro co
-          unfolding holds line_bytes
-          none-refused m = rw (last, eq-eqb (length out) (rows * columns * 70) o, eq-eqb (length marks) (rows * columns) m)
+  refused-sizes refusal e = sym (sizes-refused rows columns lines rt ct (number_of refusal) repair_tests e (number-not-zero refusal))
 
   -- not refused: the buffers have the lengths that they need
   pub record RepairPass : Type 0 where

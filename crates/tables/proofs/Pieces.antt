@@ -1,19 +1,21 @@
 -- A piece of a row: its lines read alone one after the other, and then added one after the other, byte by byte.
 use mathlib.Core.Path.{◌≡◌, refl, sym, ap, ap₂, ◌∙◌}
-use mathlib.Core.Bool.{true, false, true≢false}
+use mathlib.Core.Bool.{true, false}
 use mathlib.Core.List.{List}
+use Rattle.std.specs.Prelude.{Some}
 use Prim.Native.Nat.{ℕ, zero, suc, ◌+◌, ◌*◌, ◌≤◌, ◌<◌}
-use native.Mathlib.Nat.{mul-le-mul_right, zero-add}
+use native.Mathlib.Nat.{mul-le-mul_right}
 use native.Mathlib.Numerals.{add-one}
 use native.Mathlib.Omega.{arith}
 use borrow.Author.Count.{below_more}
-use lib.ListN.{length}
+use lib.ListN.{length, take}
+use Rattle.std.proofs.lemmas.List.{get_or-take}
 use Rattle.linecode.specs.Places.{line_bytes, line_of, xor_bytes}
 use Rattle.linecode.proofs.Bytes.{length-xor_bytes}
 use Rattle.linecode.specs.Code.{up_from}
 use Rattle.rectangle.specs.Store.{bytes_at, put_bytes, put_line, alone_at}
 use Rattle.rectangle.specs.Refusals.{every, accepted_at}
-use Rattle.tables.specs.Sweep.{PieceRead, with_lines, LinesAdded, PieceSummed}
+use Rattle.tables.specs.Sweep.{PieceSums, PieceRead, with_lines, LinesAdded, PieceSummed}
 use Rattle.rectangle.proofs.Spare.{bytes-is}
 use Rattle.rectangle.proofs.Buffer.{bytes_at-put, bytes_at-other, length-put_bytes, bytes_at-put_bytes, bytes_at-still}
 use Rattle.rectangle.proofs.Alone.{seventy, faulty-alone, accepted-alone}
@@ -27,17 +29,14 @@ line-within i count bytes h room = let below : suc i * 70 ≤ count * 70 = mul-l
 pub nth-within : (n i count bytes : ℕ) → i < count → (n + count) * 70 ≤ bytes → suc (n + i) * 70 ≤ bytes
 nth-within n i count bytes h room = line-within (n + i) (n + count) bytes (omega arith) room
 
+-- the sums of so many lines alone, taken from room for more
+pub taken-sums : (lines : List ℕ) (n count : ℕ) (sums : List ℕ) → PieceSums lines n count sums → PieceSums lines n count (take count sums)
+taken-sums lines n count sums s i h = get_or-take count sums i 0 h ∙ s i h
+
 -- ---- the loops that read: i lines are read
 pub record PieceTurn (lines : List ℕ) (n : ℕ) (each : ℕ → List ℕ) (i : ℕ) : Type 0 where
   pub accepted : (k : ℕ) → k < i → accepted_at lines (n + k) ≡ true
   pub read : (k : ℕ) → k < i → each k ≡ line_of (alone_at lines (n + k)).line
-
-pub piece-starts : (lines : List ℕ) (n : ℕ) (each : ℕ → List ℕ) → PieceTurn lines n each 0
-piece-starts lines n each =
-    record {
-      accepted = λ k h. let z : ⊥ = omega arith in absurd z;
-      read = λ k h. let z : ⊥ = omega arith in absurd z;
-    }
 
 pub piece-ends : (lines : List ℕ) (n : ℕ) (each : ℕ → List ℕ) (i count : ℕ) → PieceTurn lines n each i → count ≤ i
     → PieceRead lines n count each true
@@ -84,23 +83,7 @@ module _ (lines : List ℕ) (n count : ℕ) (few : count ≤ 8) (piece : List �
             (ap (λ (p : List ℕ). bytes_at p i) put ∙ bytes_at-put 8 piece whole i below _);
       }
 
--- the lines of a piece, counted from its first
-pub from_first : (lines : List ℕ) (n count : ℕ) (piece : List ℕ) → PieceRead lines n count (bytes_at piece) true
-    → PieceRead lines n count (λ i. bytes_at piece (0 + i)) true
-from_first lines n count piece p =
-    record { answer = p.answer; read = λ z i h. ap (bytes_at piece) (zero-add i) ∙ p.read z i h }
-
 -- ---- the loop that adds: i lines are added
-pub adding-starts : (each : ℕ → List ℕ) (c : ℕ) (old line : List ℕ) → LinesAdded each 0 c old old line line
-adding-starts each c old line =
-    record {
-      kept = refl;
-      row = refl;
-      added = λ i h. let z : ⊥ = omega arith in absurd z;
-      before = λ k h. refl;
-      after = λ k h j. refl;
-    }
-
 module _ (each : ℕ → List ℕ) (i c : ℕ) (old sums line sum : List ℕ) (t : LinesAdded each i c old sums line sum)
     (held : length (each i) ≡ 70) (room : length old ≡ 512 * 70) (below : c + i < 512) where
   whole-sums : length sums ≡ 512 * line_bytes
@@ -147,12 +130,11 @@ with-alike f g line zero e = refl
 with-alike f g line (suc i) e = ap₂ xor_bytes (with-alike f g line i (λ k h. e k (omega arith))) (e i (omega arith))
 
 pub piece-summed : (lines : List ℕ) (n count c : ℕ) (each : ℕ → List ℕ) (old sums line sum : List ℕ) → PieceRead lines n count each true
-    → LinesAdded each count c old sums line sum → PieceSummed lines n count c old sums line sum true
+    → LinesAdded each count c old sums line sum → PieceSummed lines n count c old sums line (Some sum)
 piece-summed lines n count c each old sums line sum p a =
     record {
-      kept = a.kept;
       answer = p.answer;
-      added = λ z.
+      added =
           record {
             kept = a.kept;
             row = a.row ∙ with-alike each _ line count (p.read refl);
@@ -161,8 +143,3 @@ piece-summed lines n count c each old sums line sum p a =
             after = a.after;
           };
     }
-
-pub piece-refused : (lines : List ℕ) (n count c : ℕ) (each : ℕ → List ℕ) (sums line sum : List ℕ) → PieceRead lines n count each false
-    → PieceSummed lines n count c sums sums line sum false
-piece-refused lines n count c each sums line sum p =
-    record { kept = refl; answer = p.answer; added = λ z. absurd (true≢false (sym z)) }

@@ -1,9 +1,10 @@
 -- The sweep over all rows, one after the other, and its sums as tables.
-use mathlib.Core.Path.{◌≡◌, sym, ap, ◌∙◌}
-use mathlib.Core.Bool.{Bool, true, false, true≢false}
+use mathlib.Core.Path.{◌≡◌, refl, sym, ap, ◌∙◌}
+use mathlib.Core.Bool.{true, false, true≢false}
+use Rattle.std.specs.Prelude.{None, Some}
 use mathlib.Core.List.{List, []}
 use Prim.Native.Nat.{ℕ, suc, ◌+◌, ◌-◌, ◌*◌, ◌≤◌, ◌<◌}
-use native.Mathlib.Nat.{suc-mul, zero-mul, mul-le-mul_right}
+use native.Mathlib.Nat.{suc-mul, mul-le-mul_right}
 use native.Mathlib.Numerals.{add-one}
 use native.Mathlib.Decide.{dec_le}
 use native.Mathlib.Omega.{arith}
@@ -43,92 +44,66 @@ nothing-summed size k e n h =
     long = seventy (replicate size 0) n (omega (arith, length-replicate {A = ℕ} size 0, bytes))
 
 pub unswept : (rows columns : ℕ) (lines : List ℕ) (size : ℕ) → size ≡ 512 * 70 → rows ≤ 512 → columns ≤ 512
-    → rows * columns * 70 ≤ length lines → Unswept rows columns lines (replicate size 0) (replicate size 0)
+    → rows * columns * 70 ≤ length lines → Unswept rows columns lines (replicate size 0)
 unswept rows columns lines size e rows_high columns_high bytes =
     record {
       rows_high = rows_high;
       columns_high = columns_high;
       line_bytes = bytes;
-      row_room = length-replicate {A = ℕ} size 0 ∙ e;
-      column_room = length-replicate {A = ℕ} size 0 ∙ e;
       nothing = λ c h. nothing-summed size 512 e c (omega arith);
     }
 
 -- ---- the loop over the rows: r of them are summed
-pub record Sweeping (rows columns : ℕ) (lines row_sums column_sums : List ℕ) (first r : ℕ) : Type 0 where
+pub record Sweeping (rows columns : ℕ) (lines row_sums column_sums : List ℕ) (r : ℕ) : Type 0 where
   pub rows_high : rows ≤ 512
   pub columns_high : columns ≤ 512
   pub line_bytes : rows * columns * 70 ≤ length lines
   pub few : r ≤ rows
-  pub at : first ≡ r * columns
   pub row_room : length row_sums ≡ 512 * 70
-  pub column_room : length column_sums ≡ 512 * 70
-  pub accepted : (n : ℕ) → n < first → accepted_at lines n ≡ true
+  pub accepted : (n : ℕ) → n < r * columns → accepted_at lines n ≡ true
   pub row_sum : (k : ℕ) → k < r → bytes_at row_sums k ≡ line_of (row_parity columns lines k)
   pub column_sum : (c : ℕ) → c < columns → bytes_at column_sums c ≡ line_of (summed lines c columns r)
 
-pub sweep-starts : (rows columns : ℕ) (lines row_sums column_sums : List ℕ) → Unswept rows columns lines row_sums column_sums
-    → Sweeping rows columns lines row_sums column_sums 0 0
-sweep-starts rows columns lines row_sums column_sums u =
-    record {
-      rows_high = u.rows_high;
-      columns_high = u.columns_high;
-      line_bytes = u.line_bytes;
-      few = omega arith;
-      at = sym (zero-mul columns);
-      row_room = u.row_room;
-      column_room = u.column_room;
-      accepted = λ n h. let z : ⊥ = omega arith in absurd z;
-      row_sum = λ k h. let z : ⊥ = omega arith in absurd z;
-      column_sum = u.nothing;
-    }
+module _ (rows columns : ℕ) (lines row_sums column_sums : List ℕ) (r : ℕ)
+    (s : Sweeping rows columns lines row_sums column_sums r) where
+  -- the number of the row's first line
+  abbrev first : ℕ
+  first = r * columns
 
-module _ (rows columns : ℕ) (lines row_sums column_sums : List ℕ) (first r : ℕ)
-    (s : Sweeping rows columns lines row_sums column_sums first r) where
   module _ (h : r < rows) where
     -- the row's lines lie among the lines
     pub row_in : (first + columns ≤ rows * columns) × ((first + columns) * 70 ≤ length lines)
     row_in =
         let last : suc r * columns ≤ rows * columns = mul-le-mul_right columns h in
-        let before : first + columns ≤ rows * columns = omega (arith, s.at, suc-mul r columns) in
+        let before : first + columns ≤ rows * columns = omega (arith, suc-mul r columns) in
         let bytes : (first + columns) * 70 ≤ rows * columns * 70 = mul-le-mul_right 70 before in
         (before, omega (arith, s.line_bytes))
 
-    -- and its sum inside the sums
-    pub row-sum-in : suc r * 70 ≤ length row_sums
-    row-sum-in =
-        let below : suc r ≤ 512 = omega (arith, s.rows_high) in
-        let all : suc r * 70 ≤ 512 * 70 = mul-le-mul_right 70 below in
-        omega (arith, s.row_room)
-
     -- and its columns' sums have spare bits 0
-    pub row-unswept : (piece : List ℕ) → length piece ≡ 8 * 70 → RowUnswept lines first columns piece column_sums
-    row-unswept piece room =
+    pub row-unswept : RowUnswept lines first columns column_sums
+    row-unswept =
         record {
           inside = row_in.1;
           high = s.columns_high;
-          piece_room = room;
-          room = s.column_room;
           clean = λ c i.
               clean-summed lines c columns r (bytes_at column_sums c)
               (λ j b. column-bytes rows columns (length lines) s.line_bytes c i j (omega arith)) (s.column_sum c i);
         }
 
-    module _ (column_sums' line : List ℕ) (all : Bool) (w : RowSwept lines first columns column_sums column_sums' line all) where
+    module _ (column_sums' : List ℕ) where
       -- a faulty line ends the sweep
-      pub sweep-faulty : all ≡ false → Swept rows columns lines row_sums column_sums' false
-      sweep-faulty e =
-          let f = some-fails (accepted_at lines) (up_from first columns) (sym w.answer ∙ e) in
+      pub sweep-faulty : RowSwept lines first columns column_sums column_sums' None → Swept rows columns lines row_sums column_sums' false
+      sweep-faulty w =
+          let f = some-fails (accepted_at lines) (up_from first columns) (sym w.answer) in
           let below = (up_from-bounds first columns f.0 f.1).1 in
           record {
-            row_room = s.row_room;
-            column_room = w.kept ∙ s.column_room;
             answer = sym (fails-below (accepted_at lines) (rows * columns) f.0 (omega (arith, below, row_in.0)) f.2);
             row_table = λ z. absurd (true≢false (sym z));
             column_table = λ z. absurd (true≢false (sym z));
           }
 
-      module _ (e : all ≡ true) (row_sums' : List ℕ) (g : row_sums' ≡ put_bytes row_sums r line) where
+      module _ (line : List ℕ) (w : RowSwept lines first columns column_sums column_sums' (Some line))
+          (row_sums' : List ℕ) (g : row_sums' ≡ put_bytes row_sums r line) where
         whole : length row_sums ≡ 512 * line_bytes
         unfolding line_bytes
         whole = s.row_room
@@ -141,7 +116,7 @@ module _ (rows columns : ℕ) (lines row_sums column_sums : List ℕ) (first r :
         put =
             g
             ∙ ap (put_bytes row_sums r)
-            (w.row e ∙ ap (λ (n : ℕ). line_of (summed lines n 1 columns)) s.at)
+            w.row
 
         still-accepted : (n : ℕ) → n < first + columns → accepted_at lines n ≡ true
         still-accepted n i = go (dec_le first n)
@@ -151,9 +126,9 @@ module _ (rows columns : ℕ) (lines row_sums column_sums : List ℕ) (first r :
             go (yes b) =
                 let at : n ≡ first + (n - first) = omega arith in
                 ap (accepted_at lines) at
-                ∙ from-every (accepted_at lines) first columns (sym w.answer ∙ e) (n - first) (omega arith)
+                ∙ from-every (accepted_at lines) first columns (sym w.answer) (n - first) (omega arith)
 
-        pub sweep-more : Sweeping rows columns lines row_sums' column_sums' (first + columns) (r + 1)
+        pub sweep-more : Sweeping rows columns lines row_sums' column_sums' (r + 1)
         unfolding places_at
         sweep-more =
             record {
@@ -161,10 +136,8 @@ module _ (rows columns : ℕ) (lines row_sums column_sums : List ℕ) (first r :
               columns_high = s.columns_high;
               line_bytes = s.line_bytes;
               few = omega arith;
-              at = omega (arith, s.at, suc-mul r columns, add-one r);
               row_room = ap length put ∙ length-put_line 512 row_sums whole r below (row_parity columns lines r) ∙ sym whole ∙ s.row_room;
-              column_room = w.kept ∙ s.column_room;
-              accepted = still-accepted;
+              accepted = λ n i. still-accepted n (omega (arith, suc-mul r columns, ap (λ (k : ℕ). k * columns) (add-one r)));
               row_sum = below_more _ _
                   (λ k i.
                   ap (λ (b : List ℕ). bytes_at b k) put
@@ -172,9 +145,9 @@ module _ (rows columns : ℕ) (lines row_sums column_sums : List ℕ) (first r :
                   ∙ s.row_sum k i)
                   (ap (λ (b : List ℕ). bytes_at b r) put ∙ bytes_at-put 512 row_sums whole r below (row_parity columns lines r));
               column_sum = λ c i.
-                  sum-turn lines c columns r (first + c) (bytes_at column_sums c) (bytes_at column_sums' c) (omega (arith, s.at))
+                  sum-turn lines c columns r (first + c) (bytes_at column_sums c) (bytes_at column_sums' c) (omega arith)
                   (λ j b. column-bytes rows columns (length lines) s.line_bytes c i j (omega arith)) (s.column_sum c i)
-                  (w.added e c i);
+                  (w.added refl c i);
             }
 
   pub sweep-ends : rows ≤ r → Swept rows columns lines row_sums column_sums true
@@ -182,10 +155,8 @@ module _ (rows columns : ℕ) (lines row_sums column_sums : List ℕ) (first r :
   sweep-ends h =
       let e : r ≡ rows = omega (arith, s.few) in
       record {
-        row_room = s.row_room;
-        column_room = s.column_room;
         answer = sym (every-below (accepted_at lines) (rows * columns)
-            (λ n i. s.accepted n (omega (arith, s.at, ap (λ (k : ℕ). k * columns) e))));
+            (λ n i. s.accepted n (omega (arith, ap (λ (k : ℕ). k * columns) e))));
         row_table = λ z. table_of (row_parity columns lines) row_sums rows (λ k i. s.row_sum k (omega arith));
         column_table = λ z.
             table_of (column_parity rows columns lines) column_sums columns

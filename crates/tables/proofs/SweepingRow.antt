@@ -1,9 +1,9 @@
 -- The sweep over one row, piece after piece: each line read alone, and added to the row's sum and to its column's.
 use mathlib.Core.Path.{◌≡◌, refl, sym, ap, ap₂, ◌∙◌}
-use mathlib.Core.Bool.{Bool, true, false, true≢false}
+use mathlib.Core.Bool.{true, true≢false}
+use Rattle.std.specs.Prelude.{Some, None}
 use mathlib.Core.List.{List}
 use Prim.Native.Nat.{ℕ, zero, suc, ◌+◌, ◌-◌, ◌*◌, ◌≤◌, ◌<◌}
-use native.Mathlib.Nat.{mul-le-mul_right}
 use native.Mathlib.Decide.{dec_le}
 use native.Mathlib.Omega.{arith}
 use lib.ListN.{length, replicate}
@@ -21,22 +21,18 @@ use Rattle.tables.proofs.Summing.{summed, none-summed, clean-more, clean-summed,
 use Rattle.tables.proofs.Pieces.{line-within}
 
 -- the loop: the first c lines of the row are summed
-pub record RowTurn (lines : List ℕ) (first columns : ℕ) (old piece sums line : List ℕ) (c : ℕ) : Type 0 where
+pub record RowTurn (lines : List ℕ) (first columns : ℕ) (old sums line : List ℕ) (c : ℕ) : Type 0 where
   pub few : c ≤ columns
-  pub piece_room : length piece ≡ 8 * 70
-  pub kept : length sums ≡ length old
   pub accepted : (k : ℕ) → k < c → accepted_at lines (first + k) ≡ true
   pub row : line ≡ line_of (summed lines first 1 c)
   pub added : (k : ℕ) → k < c → bytes_at sums k ≡ line_of (places_at old k ⊕ (alone_at lines (first + k)).line)
   pub later : (k : ℕ) → c ≤ k → k < columns → bytes_at sums k ≡ bytes_at old k
 
-module _ (lines : List ℕ) (first columns : ℕ) (piece₀ old : List ℕ) (u : RowUnswept lines first columns piece₀ old) where
-  pub row-starts : RowTurn lines first columns old piece₀ old (replicate 70 0) 0
+module _ (lines : List ℕ) (first columns : ℕ) (old : List ℕ) (old_room : length old ≡ 512 * 70) (u : RowUnswept lines first columns old) where
+  pub row-starts : RowTurn lines first columns old old (replicate 70 0) 0
   row-starts =
       record {
         few = omega arith;
-        piece_room = u.piece_room;
-        kept = refl;
         accepted = λ k h. let z : ⊥ = omega arith in absurd z;
         row = none-summed;
         added = λ k h. let z : ⊥ = omega arith in absurd z;
@@ -49,33 +45,24 @@ module _ (lines : List ℕ) (first columns : ℕ) (piece₀ old : List ℕ) (u :
       let below : first + k < first + columns = omega arith in
       line-within (first + k) (first + columns) (length lines) below u.inside
 
-  module _ (piece sums line : List ℕ) (c : ℕ) (t : RowTurn lines first columns old piece sums line c) where
-    -- the lines of a piece lie inside the lines
-    pub piece-in : (count : ℕ) → c + count ≤ columns → (first + c + count) * 70 ≤ length lines
-    piece-in count h =
-        let below : first + c + count ≤ first + columns = omega arith in
-        let bytes : (first + c + count) * 70 ≤ (first + columns) * 70 = mul-le-mul_right 70 below in
-        omega (arith, u.inside)
-
-    module _ (count : ℕ) (h : c + count ≤ columns) (sums' next : List ℕ) (all : Bool)
-        (p : PieceSummed lines (first + c) count c sums sums' line next all) where
+  module _ (sums line : List ℕ) (c : ℕ) (t : RowTurn lines first columns old sums line c) where
+    module _ (count : ℕ) (h : c + count ≤ columns) (sums' : List ℕ) where
       -- a faulty line ends the row
-      pub row-faulty : (given : List ℕ) → all ≡ false → RowSwept lines first columns old sums' given false
-      row-faulty given e =
-          let f = some-fails (accepted_at lines) (up_from (first + c) count) (sym p.answer ∙ e) in
+      pub row-faulty : PieceSummed lines (first + c) count c sums sums' line None → RowSwept lines first columns old sums' None
+      row-faulty p =
+          let f = some-fails (accepted_at lines) (up_from (first + c) count) (sym p.answer) in
           let b = up_from-bounds (first + c) count f.0 f.1 in
           let at : first + (f.0 - first) ≡ f.0 = omega (arith, b.0) in
           record {
-            kept = p.kept ∙ t.kept;
             answer = sym (fails-from (accepted_at lines) first columns (f.0 - first) (omega (arith, b.0, b.1)) (ap (accepted_at lines) at ∙ f.2));
-            row = λ z. absurd (true≢false (sym z));
+            row = tt;
             added = λ z. absurd (true≢false (sym z));
           }
 
       -- accepted lines are added to both sums
-      module _ (e : all ≡ true) (piece' : List ℕ) (room : length piece' ≡ 8 * 70) where
+      module _ (next : List ℕ) (p : PieceSummed lines (first + c) count c sums sums' line (Some next)) where
         a : LinesAdded (λ i. line_of (alone_at lines (first + c + i)).line) count c sums sums' line next
-        a = p.added e
+        a = p.added
 
         at : (i : ℕ) → first + c + i ≡ first + (c + i)
         at i = omega arith
@@ -116,7 +103,7 @@ module _ (lines : List ℕ) (first columns : ℕ) (piece₀ old : List ℕ) (u :
             a.added i j
             ∙ ap₂ xor_bytes (t.later (c + i) (omega arith) below) (read i)
             ∙ clean-more (bytes_at old (c + i)) (alone_at lines (first + (c + i))).line
-            (seventy old (c + i) (line-within (c + i) 512 (length old) (omega (arith, u.high)) (omega (arith, u.room))))
+            (seventy old (c + i) (line-within (c + i) 512 (length old) (omega (arith, u.high)) (omega (arith, old_room))))
             (u.clean (c + i) below) (length-alone lines (first + (c + i)) (line-in (c + i) below))
 
         -- a line of the row that is summed now: of this piece, or before it
@@ -129,26 +116,23 @@ module _ (lines : List ℕ) (first columns : ℕ) (piece₀ old : List ℕ) (u :
                 let e : k ≡ c + (k - c) = omega arith in
                 rw e (within (k - c) (omega arith))
 
-        pub row_more : RowTurn lines first columns old piece' sums' next (c + count)
+        pub row_more : RowTurn lines first columns old sums' next (c + count)
         row_more =
             record {
               few = h;
-              piece_room = room;
-              kept = a.kept ∙ t.kept;
               accepted = by-piece (λ k. accepted_at lines (first + k) ≡ true) t.accepted
-                  (λ i j. ap (accepted_at lines) (sym (at i)) ∙ from-every (accepted_at lines) (first + c) count (sym p.answer ∙ e) i j);
+                  (λ i j. ap (accepted_at lines) (sym (at i)) ∙ from-every (accepted_at lines) (first + c) count (sym p.answer) i j);
               row = a.row ∙ summed-up count (omega arith);
               added = by-piece (λ k. bytes_at sums' k ≡ line_of (places_at old k ⊕ (alone_at lines (first + k)).line))
                   (λ k j. a.before k j ∙ t.added k j) column;
               later = λ k i j. a.after k i (omega (arith, u.high)) ∙ t.later k (omega arith) j;
             }
 
-    pub row_ends : columns ≤ c → RowSwept lines first columns old sums line true
+    pub row_ends : columns ≤ c → RowSwept lines first columns old sums (Some line)
     row_ends h =
         let e : c ≡ columns = omega (arith, t.few) in
         record {
-          kept = t.kept;
           answer = sym (every-from (accepted_at lines) first columns (λ i j. t.accepted i (omega arith)));
-          row = λ z. t.row ∙ ap (λ (k : ℕ). line_of (summed lines first 1 k)) e;
+          row = t.row ∙ ap (λ (k : ℕ). line_of (summed lines first 1 k)) e;
           added = λ z k i. t.added k (omega arith);
         }

@@ -1,206 +1,173 @@
 // Making both parity tables from lines, each used as it reads alone. Document 01, "The rectangle".
 #![tactic(auto)]
 
-ghost use Rattle.std.specs.Prelude.{◌≡◌, true, ◌+◌, ◌*◌, ◌≤◌, length, take};
-ghost use Rattle.line_table.specs.Table.{line_table};
+ghost use Rattle.std.specs.Prelude.{◌≡◌, true, ◌+◌, ◌*◌, ◌≤◌, ◌<◌, length, take};
+ghost use Rattle.rectangle.specs.Answers.{answer_of};
 ghost use Rattle.rectangle.specs.Store.{bytes_at};
 ghost use Rattle.rectangle.specs.Tables.{TablesMade, make_tables};
 ghost use Rattle.tables.specs.Sweep.{PieceSums, PieceRead, LinesAdded, PieceSummed, RowUnswept, RowSwept, Unswept, Swept};
 
+use line_table::LineTable;
 use linecode::place;
-use rectangle::lines::{
-    ColumnIndex, RowIndex, add_to_column_sum, line_at, put_row_parity, read_into,
-};
+use rectangle::answers::Refusal;
+use rectangle::lines::{ColumnIndex, GroupIndex, RowIndex, line_at, read_into};
 use rectangle::sizes;
+use rectangle::sizes::Sides;
 
-// The exclusive or of some lines, and whether all of them are accepted; where one is faulty, the line is for no use.
-#[derive(Drop)]
-struct RowSum {
-    line: [u8; 70],
-    accepted: bool,
+// So many lines of a buffer, at most eight, from line `first` on. They keep their numbers in the buffer, as the definitions number them: a
+// part of the buffer would number them anew.
+#[derive(Clone, Copy)]
+struct Piece<'a> {
+    buffer: &'a [u8],
+    first: usize,
+    count: usize,
+    ghost few: { count ≤ 8 },
+    ghost inside: { (first + count) * 70 ≤ length buffer.now },
 }
 
-// Whether so many lines, from line n on, all read alone as they stand; their sums are known.
-fn all_untouched(lines: &[u8], n: usize, count: usize, sums: [u32; 8]) -> bool
-    requires inside { (count ≤ 8) × ((n + count) * 70 ≤ length lines.now) }
-    requires summed { PieceSums lines.now n count sums }
-    ensures { result ≡ true → PieceRead lines.now n count (λ i. bytes_at lines.now (n + i)) true }
-{
-    let mut i = 0;
-    while i < count {
-        if !reading::is_untouched(line_at(lines, n + i), sums[i]) {
-            return false;
+impl Piece<'_> {
+    // Line i of them.
+    fn line(self, i: usize) -> [u8; 70]
+        requires { i < self.count }
+        ensures { result ≡ bytes_at self.entry.buffer.now (self.entry.first + i) }
+    {
+        line_at(self.buffer, self.first + i)
+    }
+
+    // Whether all read alone as they stand; their sums are known. A loop, and not `all`: that the line lies inside, which a closure would
+    // ask at each index, isn't proved from the chain.
+    fn all_untouched(self, sums: &[u32]) -> bool
+        requires counted { length sums.now ≡ self.count }
+        requires summed { PieceSums self.buffer.now self.first self.count sums.now }
+        ensures { result ≡ true
+            → PieceRead self.entry.buffer.now self.entry.first self.entry.count
+            (λ i. bytes_at self.entry.buffer.now (self.entry.first + i)) true }
+    {
+        for (i, sum) in sums.iter().enumerate() {
+            if !reading::is_untouched(self.line(i), *sum) {
+                return false;
+            }
         }
-        i += 1;
+        true
     }
-    true
-}
 
-// So many lines, from line n on, read alone into the first lines of a piece: whether all are accepted. A faulty line ends it.
-#[tactic(auto, using(crate::proofs::Pieces::faulty_within))]
-fn read_piece(
-    table: &[u64; 4096],
-    lines: &[u8],
-    n: usize,
-    count: usize,
-    sums: [u32; 8],
-    piece: &mut [u8],
-) -> bool
-    requires table { table.now ≡ line_table }
-    requires inside { (count ≤ 8) × ((n + count) * 70 ≤ length lines.now) × (length piece.old ≡ 8 * 70) }
-    requires summed { PieceSums lines.now n count sums }
-    ensures { PieceRead lines.now n count (bytes_at piece.new) result }
-{
-    let mut i = 0;
-    while i < count {
-        let mark = read_into(table, sums[i], lines, n + i, piece, i);
-        if mark == 4 {
-            return false;
+    // Read alone into the first lines of a room: whether all are accepted. A faulty line ends it; `first_reading`,
+    // which keeps each mark, shares the call of `read_into`.
+    #[tactic(auto, using(crate::proofs::Pieces::faulty_within))]
+    fn read(self, table: &LineTable, sums: &[u32], room: &mut [u8; 560]) -> bool
+        requires counted { length sums.now ≡ self.count }
+        requires summed { PieceSums self.buffer.now self.first self.count sums.now }
+        ensures { PieceRead self.entry.buffer.now self.entry.first self.entry.count
+            (bytes_at room.new) result }
+    {
+        for (i, sum) in sums.iter().enumerate() {
+            let mark = read_into(table, *sum, self.buffer, self.first + i, room, i);
+            if mark == 4 {
+                return false;
+            }
         }
-        i += 1;
+        true
     }
-    true
-}
 
-// So many lines of a buffer, from line n on, each added to the row's sum, which is returned, and to its column's, from this column on.
-// Lines read alone have spare bits 0, and so have these sums, so that whole bytes are added.
-fn add_lines(
-    buffer: &[u8],
-    n: usize,
-    count: usize,
-    column: ColumnIndex,
-    sum: [u8; 70],
-    column_sums: &mut [u8],
-) -> [u8; 70]
-    requires { ((n + count) * 70 ≤ length buffer.now) × (column.0 + count ≤ 512) × (length column_sums.old ≡ 512 * 70) }
-    ensures { LinesAdded (λ i. bytes_at buffer.now (n + i)) count column.0 column_sums.old
-        column_sums.new sum result }
-{
-    let c = column.0;
-    let mut total = sum;
-    let mut i = 0;
-    while i < count {
-        let line = line_at(buffer, n + i);
-        let next = place::xor_bytes(total, line);
-        total = next;
-        add_to_column_sum(column_sums, ColumnIndex(c + i), line);
-        i += 1;
+    // Each line added to the row's sum, which is returned, and to its column's, from this column on. Lines read alone have spare bits 0, and
+    // so have these sums, so that whole bytes are added.
+    fn add(self, column: ColumnIndex, sum: [u8; 70], column_sums: &mut [u8; 35840]) -> [u8; 70]
+        requires { column.0 + self.count ≤ 512 }
+        ensures { LinesAdded (λ i. bytes_at self.entry.buffer.now (self.entry.first + i)) self.entry.count column.0
+            column_sums.old column_sums.new sum result }
+    {
+        let c = column.0;
+        let mut total = sum;
+        for i in 0..self.count {
+            let line = self.line(i);
+            // An array that a call gives is bound first: the proof doesn't cover it where it is put at once.
+            let next = place::xor_bytes(total, line);
+            total = next;
+            ColumnIndex(c + i).add_to_sum(column_sums, line);
+        }
+        total
     }
-    total
-}
 
-// So many lines, from line n on, read alone and added to the row's sum and to their columns'. Lines that read as they stand are added from
-// where they are; only a piece with another one is read into room of its own.
-fn sum_piece(
-    table: &[u64; 4096],
-    lines: &[u8],
-    n: usize,
-    count: usize,
-    column: ColumnIndex,
-    sum: [u8; 70],
-    piece: &mut [u8],
-    column_sums: &mut [u8],
-) -> RowSum
-    requires table { table.now ≡ line_table }
-    requires inside { (count ≤ 8) × ((n + count) * 70 ≤ length lines.now) × (length piece.old ≡ 8 * 70) }
-    requires room { (column.0 + count ≤ 512) × (length column_sums.old ≡ 512 * 70) }
-    ensures { PieceSummed lines.now n count column.0 column_sums.old column_sums.new sum
-        result.line result.accepted }
-{
-    let sums = sweep::sums_of_lines(table, lines, n, count);
-    if all_untouched(lines, n, count, sums) {
-        return RowSum {
-            line: add_lines(lines, n, count, column, sum, column_sums),
-            accepted: true,
+    // Read alone and added to the row's sum, which is returned, and to their columns'; nothing where one is faulty. Lines that read as they
+    // stand are added from where they are; only a piece with another one is read into room of its own.
+    fn sum(
+        self,
+        table: &LineTable,
+        column: ColumnIndex,
+        sum: [u8; 70],
+        room: &mut [u8; 560],
+        column_sums: &mut [u8; 35840],
+    ) -> Option<[u8; 70]>
+        requires { column.0 + self.count ≤ 512 }
+        ensures { PieceSummed self.entry.buffer.now self.entry.first self.entry.count column.0
+            column_sums.old column_sums.new sum result }
+    {
+        let sums = sweep::sums_of_lines(table, self.buffer, self.first, self.count);
+        if self.all_untouched(&sums[..self.count]) {
+            return Some(self.add(column, sum, column_sums));
+        }
+        if !self.read(table, &sums[..self.count], room) {
+            return None;
+        }
+        let read = Piece {
+            buffer: room,
+            first: 0,
+            count: self.count,
         };
-    }
-    if !read_piece(table, lines, n, count, sums, piece) {
-        return RowSum {
-            line: sum,
-            accepted: false,
-        };
-    }
-    RowSum {
-        line: add_lines(piece, 0, count, column, sum, column_sums),
-        accepted: true,
+        Some(read.add(column, sum, column_sums))
     }
 }
 
-// Each line of a row read alone, once, and added to the row's sum and to its column's. A faulty line ends it. It goes by pieces of at most
-// eight lines, all summed and then all added: so the processor works on several lines at a time, and finds them near when it adds them.
+// Each line of a row read alone, once, and added to the row's sum, which is returned, and to its column's. A faulty line ends it. It goes by
+// pieces of at most eight lines, all summed and then all added: so the processor works on several lines at a time, and finds them near
+// when it adds them.
 fn sum_row(
-    table: &[u64; 4096],
+    table: &LineTable,
     lines: &[u8],
     first: usize,
     columns: usize,
-    piece: &mut [u8],
-    column_sums: &mut [u8],
-) -> RowSum
-    requires table { table.now ≡ line_table }
-    requires unswept { RowUnswept lines.now first columns piece.old column_sums.old }
-    ensures { RowSwept lines.now first columns column_sums.old column_sums.new
-        result.line result.accepted }
+    room: &mut [u8; 560],
+    column_sums: &mut [u8; 35840],
+) -> Option<[u8; 70]>
+    requires { RowUnswept lines.now first columns column_sums.old }
+    ensures { RowSwept lines.now first columns column_sums.old column_sums.new result }
 {
     let mut sum = [0u8; 70];
     let mut c = 0;
+    // The last piece may be shorter, so that steps of eight would need its length all the same.
     while c < columns {
-        let mut count = columns - c;
-        if 8 < count {
-            count = 8;
-        }
-        let next = sum_piece(
-            table,
-            lines,
-            first + c,
-            count,
-            ColumnIndex(c),
-            sum,
-            piece,
-            column_sums,
-        );
-        if !next.accepted {
-            return RowSum {
-                line: sum,
-                accepted: false,
-            };
-        }
-        let line = next.line;
-        sum = line;
-        c += count;
+        let piece = Piece {
+            buffer: lines,
+            first: first + c,
+            count: (columns - c).min(8),
+        };
+        let next = piece.sum(table, ColumnIndex(c), sum, room, column_sums)?;
+        sum = next;
+        c += piece.count;
     }
-    RowSum {
-        line: sum,
-        accepted: true,
-    }
+    Some(sum)
 }
 
 // Rows and columns summed in one sweep over the lines, in the order in which they lie: whether every line is accepted. A faulty
 // line ends it.
 fn sweep(
-    table: &[u64; 4096],
-    rows: usize,
-    columns: usize,
+    table: &LineTable,
+    sides: Sides,
     lines: &[u8],
-    row_sums: &mut [u8],
-    column_sums: &mut [u8],
+    row_sums: &mut [u8; 35840],
+    column_sums: &mut [u8; 35840],
 ) -> bool
-    requires table { table.now ≡ line_table }
-    requires unswept { Unswept rows columns lines.now row_sums.old column_sums.old }
-    ensures { Swept rows columns lines.now row_sums.new column_sums.new result }
+    requires { Unswept sides.rows sides.columns lines.now column_sums.old }
+    ensures { Swept sides.rows sides.columns lines.now row_sums.new column_sums.new result }
 {
     // Room for eight lines, zeroed once and not for each row, since a row may have two lines only.
-    let mut piece = [0u8; 560];
-    let mut first = 0;
-    let mut r = 0;
-    while r < rows {
-        let row = sum_row(table, lines, first, columns, &mut piece, column_sums);
-        if !row.accepted {
+    let mut room = [0u8; 560];
+    for r in 0..sides.rows {
+        let first = r * sides.columns;
+        let Some(line) = sum_row(table, lines, first, sides.columns, &mut room, column_sums) else {
             return false;
-        }
-        let line = row.line;
-        put_row_parity(row_sums, RowIndex(r), line);
-        first += columns;
-        r += 1;
+        };
+        RowIndex(r).put_parity(row_sums, line);
     }
     true
 }
@@ -210,50 +177,37 @@ fn copy_sums(sums: &[u8], table: &mut [u8])
     requires { length table.old ≤ length sums.now }
     ensures { table.new ≡ take (length table.old) sums.now }
 {
-    let mut i = 0;
-    while i < table.len() {
-        table[i] = sums[i];
-        i += 1;
-    }
+    table.copy_from_slice(&sums[..table.len()]);
 }
 
-// Both tables made from the lines: 0, or the first refusal that fits, which writes nothing.
+// Both tables made from the lines, or the first refusal that fits, which writes nothing. Sizes and buffers come one by one, as C hands them
+// over.
 pub fn make_tables(
     rows: usize,
     columns: usize,
     lines: &[u8],
     row_table: &mut [u8],
     column_table: &mut [u8],
-) -> u32
+) -> Result<(), Refusal>
     ensures { ◌≡◌ {A = TablesMade}
-        (record { answer = result; row_table = row_table.new; column_table = column_table.new })
+        (record { answer = answer_of result; row_table = row_table.new; column_table = column_table.new })
         (make_tables rows columns lines.now row_table.old column_table.old) }
 {
-    let refused = sizes::refusal(
+    let sides = sizes::check(
         rows,
         columns,
         lines.len(),
         row_table.len(),
         column_table.len(),
-    );
-    if refused != 0 {
-        return refused;
-    }
+    )?;
     // Refusal 10 writes nothing and is known after the last line only, so the sums are made apart: 512 lines of 70 bytes each.
     let mut row_sums = [0u8; 35840];
     let mut column_sums = [0u8; 35840];
     let table = line_table::lent();
-    if !sweep(
-        &table,
-        rows,
-        columns,
-        lines,
-        &mut row_sums,
-        &mut column_sums,
-    ) {
-        return 10;
+    if !sweep(&table, sides, lines, &mut row_sums, &mut column_sums) {
+        return Err(Refusal::Faulty);
     }
     copy_sums(&row_sums, row_table);
     copy_sums(&column_sums, column_table);
-    0
+    Ok(())
 }

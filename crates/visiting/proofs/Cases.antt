@@ -3,7 +3,8 @@ use mathlib.Core.Path.{◌≡◌, sym, ap, ap₂, ◌∙◌, subst}
 use mathlib.Core.List.{List}
 use Prim.Native.Nat.{ℕ, ◌*◌, ◌/◌, ◌≤◌, ◌<◌}
 use native.Mathlib.Omega.{arith}
-use lib.ListN.{length, take, get_or, set}
+use lib.ListN.{length, get_or, set}
+use Rattle.std.specs.Prelude.{Some, slice_get}
 use Rattle.gf2.specs.Word.{Word, ◌⊕◌}
 use Rattle.linecode.specs.Places.{line_places, places, line_of}
 use Rattle.scheme.specs.Layer.{Cell, read_line}
@@ -12,7 +13,7 @@ use Rattle.scheme.specs.Demand3.{◌∈◌}
 use Rattle.rectangle.specs.Store.{line_layer, bytes_at, places_at, put_bytes, stride}
 use Rattle.rectangle.proofs.Spare.{length-places}
 use Rattle.rectangle.proofs.Stride.{stride-index, rising-stride}
-use Rattle.groups.specs.Lent.{Inside, Listed, faulty_among}
+use Rattle.groups.specs.Lent.{Inside, faulty_among}
 use Rattle.groups.proofs.Trials as trials
 use Rattle.scheme.proofs.Steps.{not-one}
 use Rattle.groups.proofs.Settled.{only-faulty-line, only-member, rebuilt-word, settled, rebuilt-is, rebuilt-long}
@@ -36,6 +37,22 @@ lent-lines out marks first step count l = subst (Inside first step count) lines 
     lines : length marks ≡ length out / 70
     lines = omega (arith, l.room)
 
+module _ (out marks : List ℕ) (first step count : ℕ) (l : Lent out marks first step count) where
+  member-inside : (n : ℕ) → n ∈ stride first step count → n < length marks
+  member-inside n i = let at = stride-index first step count n i in omega (arith, at.2, l.inside.each at.0 at.1)
+
+  -- the only faulty line
+  module _ (faulty : ℕ) (counted : faulty ≡ length (faulty_among marks (stride first step count))) (one : faulty ≡ 1) (n : ℕ)
+      (n-is : Some n ≡ slice_get (faulty_among marks (stride first step count)) 0) where
+    only : length (faulty_among marks (stride first step count)) ≡ 1
+    only = sym counted ∙ one
+
+    member : (n ∈ stride first step count) × (get_or marks n 0 ≡ 4)
+    member = only-member marks (stride first step count) only n n-is
+
+    pub only-inside : n < length marks
+    only-inside = member-inside n member.0
+
 module _ (out marks : List ℕ) (first step count : ℕ) (l : Lent out marks first step count) (parity : List ℕ)
     (full : length parity ≡ 70) where
   g : Group
@@ -44,9 +61,6 @@ module _ (out marks : List ℕ) (first step count : ℕ) (l : Lent out marks fir
   s : State
   s = store_in out marks
 
-  member-inside : (n : ℕ) → n ∈ stride first step count → n < length marks
-  member-inside n i = let at = stride-index first step count n i in omega (arith, at.2, l.inside.each at.0 at.1)
-
   -- how many lines are faulty, as counted
   module _ (faulty : ℕ) (counted : faulty ≡ length (faulty_among marks (stride first step count))) where
     faulty-is : faulty ≡ length (faulty_of s (stride first step count))
@@ -54,55 +68,48 @@ module _ (out marks : List ℕ) (first step count : ℕ) (l : Lent out marks fir
     faulty-is = counted ∙ ap length (store-faulty out marks (stride first step count))
 
     -- fewer than two: no trial
-    pub few-faulty : faulty < 2 → Becomes (trial (read_line line_layer) (group_at first step count parity)) out marks out marks
+    pub few_faulty : faulty < 2 → Becomes (trial (read_line line_layer) (group_at first step count parity)) out marks out marks
     unfolding g s
-    few-faulty h = nothing-becomes _ out marks (trials.few-faulty g s (omega (arith, faulty-is)))
+    few_faulty h = nothing-becomes _ out marks (trials.few-faulty g s (omega (arith, faulty-is)))
 
     -- none or several are not rebuilt
-    pub not-rebuilt : (faulty ≡ 1 → ⊥) → Becomes (settle (group_at first step count parity)) out marks out marks
+    pub not_rebuilt : (faulty ≡ 1 → ⊥) → Becomes (settle (group_at first step count parity)) out marks out marks
     unfolding g s
-    not-rebuilt h = nothing-becomes _ out marks (not-one g s (λ e. h (faulty-is ∙ e)))
+    not_rebuilt h = nothing-becomes _ out marks (not-one g s (λ e. h (faulty-is ∙ e)))
 
     -- the group's difference, as summed
     module _ (lack : List ℕ) (summed : places lack ≡ sum (places_at out) (stride first step count) ⊕ places parity) where
       lack-is : places lack ≡ sum (line_at s) (stride first step count) ⊕ places parity
       unfolding s
       lack-is =
-          summed ∙ ap (λ (w : Word). w ⊕ places parity) (sym (store-sum out marks (stride first step count) member-inside))
+          summed ∙ ap (λ (w : Word). w ⊕ places parity) (sym (store-sum out marks (stride first step count) (member-inside out marks first step count l)))
 
-      module _ (number : ℕ) (array : List ℕ) (listed : Listed (set_places 0 (places lack)) number array) where
-        -- no mismatch, or more than six places: no trial
-        pub no-mismatch : number < 1 → Becomes (trial (read_line line_layer) (group_at first step count parity)) out marks out marks
-        unfolding g s
-        no-mismatch h = nothing-becomes _ out marks (trials.no-mismatch g s (places lack) lack-is number array listed h)
+      -- more than six places: no trial
+      pub many_places : 6 < length (set_places 0 (places lack))
+          → Becomes (trial (read_line line_layer) (group_at first step count parity)) out marks out marks
+      unfolding g s
+      many_places h = nothing-becomes _ out marks (trials.many-places g s (places lack) lack-is h)
 
-        pub many_places : 6 < number → Becomes (trial (read_line line_layer) (group_at first step count parity)) out marks out marks
+      module _ (ps : List ℕ) (ps-are : ps ≡ set_places 0 (places lack)) where
+        -- no mismatch: no trial
+        pub no-mismatch : length ps < 1 → Becomes (trial (read_line line_layer) (group_at first step count parity)) out marks out marks
         unfolding g s
-        many_places h = nothing-becomes _ out marks (trials.many-places g s (places lack) lack-is number array listed h)
+        no-mismatch h = nothing-becomes _ out marks (trials.no-mismatch g s (places lack) lack-is ps ps-are h)
 
         -- one to six places are tried
-        pub places-tried : (out' marks' : List ℕ) → 2 ≤ faulty → 1 ≤ number → number ≤ 6
-            → Becomes (λ t. try_lines (read_line line_layer) (take number array) t (stride first step count)) out marks out' marks'
+        pub places-tried : (out' marks' : List ℕ) → 2 ≤ faulty → 1 ≤ length ps → length ps ≤ 6
+            → Becomes (λ t. try_lines (read_line line_layer) ps t (stride first step count)) out marks out' marks'
             → Becomes (trial (read_line line_layer) (group_at first step count parity)) out marks out' marks'
         unfolding g s
         places-tried out' marks' two one six b =
             record {
               store =
-                  b.store ∙ trials.places-tried g s (places lack) lack-is number array listed (omega (arith, faulty-is)) one six;
+                  b.store ∙ trials.places-tried g s (places lack) lack-is ps ps-are (omega (arith, faulty-is)) one six;
               bytes = b.bytes;
             }
 
       -- exactly one is rebuilt
-      module _ (one : faulty ≡ 1) (n : ℕ) (n-is : n ≡ get_or (faulty_among marks (stride first step count)) 0 0) where
-        only : length (faulty_among marks (stride first step count)) ≡ 1
-        only = sym counted ∙ one
-
-        member : (n ∈ stride first step count) × (get_or marks n 0 ≡ 4)
-        member = only-member marks (stride first step count) only n n-is
-
-        pub only-inside : n < length marks
-        only-inside = member-inside n member.0
-
+      module _ (one : faulty ≡ 1) (n : ℕ) (n-is : Some n ≡ slice_get (faulty_among marks (stride first step count)) 0) where
         pub rebuilt : (line new out' : List ℕ) → length lack ≡ 70 → line ≡ bytes_at out n → new ≡ line_of (places line ⊕ places lack)
             → out' ≡ put_bytes out n new → Becomes (settle (group_at first step count parity)) out marks out' (set marks n 3)
         unfolding g s places_at
@@ -111,24 +118,30 @@ module _ (out marks : List ℕ) (first step count : ℕ) (l : Lent out marks fir
             (sym (put ∙ ap (put_bytes out n) (New-is ∙ ap line_of word-is)))
             (record {
               store =
-                  store-mended out marks l.room n only-inside member.1 word long 3 (omega arith)
+                  store-mended out marks l.room n inside is.1 word long 3 (omega arith)
                   ∙ settled g s n (sym (store-faulty out marks (stride first step count))
-                  ∙ only-faulty-line marks (stride first step count) only n n-is);
-              bytes = line-mended out marks l.room n only-inside member.1 word long 3 (omega arith);
+                  ∙ only-faulty-line marks (stride first step count) (sym counted ∙ one) n n-is);
+              bytes = line-mended out marks l.room n inside is.1 word long 3 (omega arith);
             })
           where
+            is : (n ∈ stride first step count) × (get_or marks n 0 ≡ 4)
+            is = member out marks first step count l faulty counted one n n-is
+
+            inside : n < length marks
+            inside = only-inside out marks first step count l faulty counted one n n-is
+
             word : Word
             word = rebuilt-word g s n
 
             own : length (line_at s n) ≡ line_places
-            own = store_long out marks l.room n only-inside
+            own = store_long out marks l.room n inside
 
             word-is : places line ⊕ places lack ≡ word
             word-is =
-                ap₂ ◌⊕◌ (ap places line-is ∙ sym (ap (λ (c : Cell). c.line) (store_at out marks n only-inside))) lack-is
-                ∙ rebuilt-is g s n (rising-stride first step count l.inside.apart) member.0 own (length-places parity full)
+                ap₂ ◌⊕◌ (ap places line-is ∙ sym (ap (λ (c : Cell). c.line) (store_at out marks n inside))) lack-is
+                ∙ rebuilt-is g s n (rising-stride first step count l.inside.apart) is.0 own (length-places parity full)
 
             long : length word ≡ line_places
             long =
-                rebuilt-long g s n (rising-stride first step count l.inside.apart) member.0 own (length-places parity full)
+                rebuilt-long g s n (rising-stride first step count l.inside.apart) is.0 own (length-places parity full)
                 (ap length (sym lack-is) ∙ length-places lack wide)

@@ -8,8 +8,8 @@ use Rattle.first_reading.proofs.read_row.Given as goal
 
 abbrev pub invariant-loop-c : goal.invariant-loop-c
 invariant-loop-c l =
-    Sweeping l.rows l.columns l.found l.initial.out l.initial.marks (l.row_lacks ++ l.initial.column_lacks) l.initial.faulty l.row.0 l.first l.out l.marks (l.row_lacks ++ l.column_lacks) l.faulty l.difference l.hurt l.c
-    × (length l.column_lacks ≡ l.columns * 70)
+    Sweeping l.sides.rows l.sides.columns l.found l.initial.out l.initial.marks (l.row_lacks ++ l.initial.column_lacks) l.initial.faulty l.row.0 l.first l.out l.marks (l.row_lacks ++ l.column_lacks) l.faulty l.tally.difference l.tally.hurt l.c
+    × (length l.column_lacks ≡ l.sides.columns * 70)
 
 abbrev pub decreases-loop-c : goal.decreases-loop-c
-decreases-loop-c l = l.columns - l.c
+decreases-loop-c l = l.sides.columns - l.c

@@ -7,6 +7,3 @@ use Rattle.groups.proofs.after_place.Goals as goal
 pub returns-then-line-i-eq0 : goal.returns-then-line-i-eq0
 returns-then-line-i-eq0 c =
     (omega arith, omega arith, byte_past c.args.line (array-length 70 c.args.line _ c.well_formed.0) c.args.i c.if-i-lt536.true c.if-i-eq0.true c.if-line-i-eq0.true)
-
-pub returns : goal.returns
-returns c = (omega arith, omega (arith, c.requires), λ k a b. let z : ⊥ = omega arith in absurd z)

@@ -1,36 +1,26 @@
--- `groups::busy_bytes` meets its contract.
-use mathlib.Core.Path.{sym, subst}
-use Prim.Native.Nat.{ℕ, ◌+◌}
+-- `groups::busy_bytes` meets its contract: of the first bytes so many are not 0.
+use mathlib.Core.Path.{◌≡◌, sym, ap, ◌∙◌}
+use mathlib.Core.Bool.{not}
+use Prim.Native.Nat.{ℕ}
+use Rattle.std.specs.Prelude.{◌==◌, count_by}
 use native.Mathlib.Omega.{arith}
+use lib.ListN.{length, take}
+use lib.Seq.{length-take-le, take-length}
 use Rattle.linecode.proofs.Bytes.{array-length, array-bytes}
-use Rattle.groups.proofs.Busy.{Busy, busy-start, busy-more, busy-same, busy-end}
+use Rattle.groups.proofs.Busy.{busy-places}
 use Rattle.groups.proofs.busy_bytes.Goals as goal
-use Rattle.groups.proofs.busy_bytes.Goals.{then-line-i-ne0, else-line-i-ne0}
 
-pub loop-i-init : goal.loop-i-init
-loop-i-init c = busy-start _
-
-pub bounds-line-i : goal.bounds-line-i
-bounds-line-i c = omega arith
-
-pub overflow_add-busy : goal.overflow_add-busy
-overflow_add-busy c = omega (arith, c.loop-i.invariant.few)
-
-pub overflow_add-i : goal.overflow_add-i
-overflow_add-i c = omega arith
-
-pub loop-i-smaller : goal.loop-i-smaller
-loop-i-smaller c = omega arith
-
-pub loop-i-preserved : goal.loop-i-preserved
-loop-i-preserved c =
+pub slice_bounds-byte-items-end : goal.slice_bounds-byte-items-end
+slice_bounds-byte-items-end c =
     let whole = array-length 70 c.args.line _ c.well_formed.0 in
-    let bytes = array-bytes 70 c.args.line _ c.well_formed.0 in
-    elim c.if-line-i-ne0.branch [
-      | then-line-i-ne0 w ↦ subst (λ (n : ℕ). Busy c.args.line n (c.loop-i.i + 1)) (sym w.busy-is) (busy-more c.args.line whole bytes _ _ c.loop-i.invariant c.loop-i-test.true w.if-line-i-ne0.true)
-      | else-line-i-ne0 w ↦ subst (λ (n : ℕ). Busy c.args.line n (c.loop-i.i + 1)) (sym w.busy-is) (busy-same c.args.line whole bytes _ _ c.loop-i.invariant c.loop-i-test.true)
-    ]
+    sym (length-take-le 67 c.args.line (omega arith))
 
 pub returns : goal.returns
 returns c =
-    busy-end c.args.line (array-length 70 c.args.line _ c.well_formed.0) (array-bytes 70 c.args.line _ c.well_formed.0) _ _ c.loop-i.invariant c.loop-i-test.false
+    let whole = array-length 70 c.args.line _ c.well_formed.0 in
+    let last : c.loop-byte.byte-index ≡ length (take 67 c.args.line) = omega (arith, c.loop-byte.auto, c.loop-byte-test.false) in
+    let all =
+    c.loop-byte.invariant.0
+    ∙ ap (λ (k : ℕ). count_by (λ b. not (b == 0)) (take k (take 67 c.args.line))) last
+    ∙ ap (count_by (λ b. not (b == 0))) (take-length (take 67 c.args.line)) in
+    omega (arith, busy-places c.args.line whole (array-bytes 70 c.args.line _ c.well_formed.0), all)

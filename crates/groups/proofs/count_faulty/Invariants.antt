@@ -1,11 +1,8 @@
 -- `groups::count_faulty` meets its contract.
 use mathlib.Core.Path.{◌≡◌}
-use Prim.Native.Nat.{◌-◌, ◌*◌, ◌≤◌}
+use Prim.Native.Nat.{◌*◌, ◌≤◌}
 use Rattle.groups.specs.Lent.{count_to}
 use Rattle.groups.proofs.count_faulty.Given as goal
 
 abbrev pub invariant-loop-r : goal.invariant-loop-r
-invariant-loop-r l = (l.found ≡ count_to l.faulty l.r) × (l.found ≤ l.r * 65535) × (l.r ≤ l.rows)
-
-abbrev pub decreases-loop-r : goal.decreases-loop-r
-decreases-loop-r l = l.rows - l.r
+invariant-loop-r l = (l.found ≡ count_to l.faulty l.r) × (l.found ≤ l.r * 65535)

@@ -1,10 +1,11 @@
 -- `groups::first_faulty` meets its contract.
-use Prim.Native.Nat.{◌-◌}
-use Rattle.groups.proofs.Seeking.{Seeking}
+use mathlib.Core.Path.{◌≡◌}
+use Rattle.rectangle.specs.Store.{stride}
+use Rattle.groups.specs.Lent.{faulty_among}
+use Rattle.groups.proofs.Walk.{left}
 use Rattle.groups.proofs.first_faulty.Given as goal
 
 abbrev pub invariant-loop-i : goal.invariant-loop-i
-invariant-loop-i l = Seeking l.marks l.first l.step l.count l.n l.i
-
-abbrev pub decreases-loop-i : goal.decreases-loop-i
-decreases-loop-i l = l.count - l.i
+invariant-loop-i l =
+    faulty_among l.marks (stride l.span.first l.span.step l.span.count)
+    ≡ faulty_among l.marks (left l.span.first l.span.step l.span.count l.i)

@@ -3,10 +3,10 @@ use borrow.Author.Tests.{lt-ltb, le-ltb}
 use Rattle.groups.specs.Lent.{which_of}
 use Rattle.groups.proofs.nth.Goals as goal
 
-pub returns-then-k-rows : goal.returns-then-k-rows
+pub returns-then-k-sides : goal.returns-then-k-sides
 unfolding which_of
-returns-then-k-rows c = rw (lt-ltb _ _ c.if-k-rows.true)
+returns-then-k-sides c = rw (lt-ltb _ _ c.if-k-sides.true)
 
-pub returns-else-k-rows : goal.returns-else-k-rows
+pub returns-else-k-sides : goal.returns-else-k-sides
 unfolding which_of
-returns-else-k-rows c = rw (le-ltb _ _ c.if-k-rows.false)
+returns-else-k-sides c = rw (le-ltb _ _ c.if-k-sides.false)

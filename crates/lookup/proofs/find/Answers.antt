@@ -35,7 +35,7 @@ by_repair-read-requires c =
 pub returns : goal.returns
 returns c =
     let w = wanted _ _ _ _ _ _ _ _ _ c.requires.fits _ c.requires.inside in (
-      both-failed _ _ _ _ c.args.column_table.now w.sides _ w.inside c.read_line-alone.result (read_at _ _ _ _ c.line_at.ensures c.read_line-alone.ensures) c.if-alone-ne4.false
+      both-failed _ _ _ _ c.args.store.column_table.now w.sides _ w.inside c.read_line-alone.result (read_at _ _ _ _ c.line_at.ensures c.read_line-alone.ensures) c.if-alone-ne4.false
           c.by_row-visited.result c.by_row-visited.ensures c.if-visited-ne4.false,
       c.by_repair-read.ensures,
     )

@@ -10,4 +10,4 @@ pub returns : goal.returns
 returns c =
     let other : c.args.mark ≢ 1 = omega arith in
     c.clear_spare.ensures
-    ∙ read-unchanged c.args.found (array-length 70 c.args.found _ c.well_formed.1.0) (λ e. other (c.requires.1 ∙ e))
+    ∙ read-unchanged c.args.found (array-length 70 c.args.found _ c.well_formed.1.0) (λ e. other (c.requires ∙ e))

@@ -5,7 +5,7 @@ use Rattle.tables.proofs.sum_row.Given as goal
 
 abbrev pub invariant-loop-c : goal.invariant-loop-c
 invariant-loop-c l =
-    RowTurn l.lines l.first l.columns l.initial.column_sums l.piece l.column_sums l.sum l.c
+    RowTurn l.lines l.first l.columns l.initial.column_sums l.column_sums l.sum l.c
 
 abbrev pub decreases-loop-c : goal.decreases-loop-c
 decreases-loop-c l = l.columns - l.c

@@ -2,47 +2,36 @@
 use mathlib.Core.Path.{refl, ap, ◌∙◌}
 use mathlib.Core.List.{List, ◌++◌}
 use Prim.Native.Nat.{ℕ, ◌<◌}
-use Rattle.groups.proofs.Joined.{table-line, first-added, second-added}
-use Rattle.mending.proofs.Mended.{some-columns, row_listed, column-listed, row-counted, column-counted, mended-as}
+use Rattle.groups.proofs.Joined.{first-added, second-added}
+use Rattle.mending.proofs.Mended.{row_listed, column-listed, row-counted, column-counted, mended-as}
 use native.Mathlib.Omega.{arith}
 use Rattle.mending.proofs.visit.mend.Goals as goal
 
-pub row_of-row-requires : goal.row_of-row-requires
-row_of-row-requires c =
-    some-columns _ _ _ _ _ _ c.requires.ready.room _ c.requires.faulty.0
+pub one_less-requires : goal.one_less-requires
+one_less-requires c =
+    rw c.into.ensures (
+      omega (arith, c.row_of-row.ensures, row_listed _ _ _ _ _ _ c.requires.ready.room _ c.requires.faulty.0, c.requires.ready.room.rect.rows_high),
+      c.requires.ready.room.counts,
+      row-counted _ _ _ _ _ _ c.requires.ready.room _ c.requires.faulty.0 c.requires.ready.held c.requires.faulty.1 _ c.row_of-row.ensures,
+    )
 
-pub column_of-column-requires : goal.column_of-column-requires
-column_of-column-requires c =
-    some-columns _ _ _ _ _ _ c.requires.ready.room _ c.requires.faulty.0
-
-pub add_to_row_sum-requires : goal.add_to_row_sum-requires
-add_to_row_sum-requires c =
-    table-line _ _ _ c.requires.ready.row_bytes (omega (arith, c.row_of-row.ensures, row_listed _ _ _ _ _ _ c.requires.ready.room _ c.requires.faulty.0))
-
-pub one_less_in_row-requires : goal.one_less_in_row-requires
-one_less_in_row-requires c = (
-  omega (arith, c.row_of-row.ensures, row_listed _ _ _ _ _ _ c.requires.ready.room _ c.requires.faulty.0, c.requires.ready.room.rect.rows_high),
-  c.requires.ready.room.counts,
-  row-counted _ _ _ _ _ _ c.requires.ready.room _ c.requires.faulty.0 c.requires.ready.held c.requires.faulty.1 _ c.row_of-row.ensures,
-)
-
-pub add_to_column_sum-requires : goal.add_to_column_sum-requires
-add_to_column_sum-requires c =
-    table-line _ _ _ c.requires.ready.column_bytes (omega (arith, c.column_of-column.ensures, column-listed _ _ _ _ _ _ c.requires.ready.room _ c.requires.faulty.0))
-
-pub one_less_in_column-requires : goal.one_less_in_column-requires
-one_less_in_column-requires c = (
-  omega (arith, c.column_of-column.ensures, column-listed _ _ _ _ _ _ c.requires.ready.room _ c.requires.faulty.0, c.requires.ready.room.rect.rows_high, c.requires.ready.room.rect.columns_high),
-  c.one_less_in_row.auto.faulty ∙ c.requires.ready.room.counts,
-  column-counted _ _ _ _ _ _ c.requires.ready.room _ c.requires.faulty.0 c.requires.ready.held c.requires.faulty.1 _ _ _ c.row_of-row.ensures c.column_of-column.ensures c.one_less_in_row.ensures,
-)
+pub one_less-requires-2 : goal.one_less-requires-2
+one_less-requires-2 c =
+    let less = rw c.into.ensures at c.one_less.ensures in
+    rw c.into-2.ensures (
+      omega (arith, c.column_of-column.ensures, column-listed _ _ _ _ _ _ c.requires.ready.room _ c.requires.faulty.0, c.requires.ready.room.rect.rows_high, c.requires.ready.room.rect.columns_high),
+      c.one_less.auto.faulty ∙ c.requires.ready.room.counts,
+      column-counted _ _ _ _ _ _ c.requires.ready.room _ c.requires.faulty.0 c.requires.ready.held c.requires.faulty.1 _ _ _ c.row_of-row.ensures c.column_of-column.ensures less,
+    )
 
 pub returns : goal.returns
 returns c =
-    let row : c.row_of-row.result.0 < c.args.rows = omega (arith, c.row_of-row.ensures, row_listed _ _ _ _ _ _ c.requires.ready.room _ c.requires.faulty.0) in
-    let first = ap (λ (l : List ℕ). l ++ c.args.column_lacks.now) c.add_to_row_sum.ensures ∙ first-added c.args.row_lacks.now c.args.column_lacks.now c.args.rows c.requires.ready.row_bytes _ _ row in
-    let second = ap (λ (l : List ℕ). c.add_to_row_sum.new.row_sums ++ l) c.add_to_column_sum.ensures ∙ second-added c.add_to_row_sum.new.row_sums c.args.column_lacks.now c.args.rows (c.add_to_row_sum.auto.row_sums ∙ c.requires.ready.row_bytes) _ _ in
+    let row : c.row_of-row.result.0 < c.args.sides.rows = omega (arith, c.row_of-row.ensures, row_listed _ _ _ _ _ _ c.requires.ready.room _ c.requires.faulty.0) in
+    let first = ap (λ (l : List ℕ). l ++ c.args.column_lacks.now) c.add_to_sum.ensures ∙ first-added c.args.row_lacks.now c.args.column_lacks.now c.args.sides.rows c.requires.ready.row_bytes _ _ row in
+    let second = ap (λ (l : List ℕ). c.add_to_sum.new.sums ++ l) c.add_to_sum-2.ensures ∙ second-added c.add_to_sum.new.sums c.args.column_lacks.now c.args.sides.rows (c.add_to_sum.auto.sums ∙ c.requires.ready.row_bytes) _ _ in
+    let in-row = rw c.into.ensures at c.one_less.ensures in
+    let in-column = rw c.into-2.ensures at c.one_less-2.ensures in
     λ parity s w carried long line-is.
     mended-as _ _ _ _ _ _ c.requires.ready.room _ c.requires.faulty.0 parity s carried c.requires.faulty.1 w _ long c.requires.faulty.2 _ _ _ c.line_at.ensures line-is
-    c.xor_lines-change.ensures _ _ _ _ _ _ _ _ c.row_of-row.ensures c.column_of-column.ensures c.put_line.ensures refl first c.one_less_in_row.ensures
-    second c.one_less_in_column.ensures
+    c.xor_lines-change.ensures _ _ _ _ _ _ _ _ c.row_of-row.ensures c.column_of-column.ensures c.put_line.ensures refl first in-row
+    second in-column

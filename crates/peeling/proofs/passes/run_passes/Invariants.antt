@@ -4,7 +4,7 @@ use Rattle.peeling.proofs.passes.run_passes.Given as goal
 
 abbrev pub invariant-loop-before : goal.invariant-loop-before
 invariant-loop-before l =
-    Running l.rows l.columns l.initial.marks l.marks l.faulty l.passes l.before
+    Running l.sides.rows l.sides.columns l.initial.marks l.marks l.faulty l.passes l.before
 
 abbrev pub decreases-loop-before : goal.decreases-loop-before
 decreases-loop-before l = l.before

@@ -1,23 +1,31 @@
 -- `peeling::passes::visit_group` meets its contract.
-use Rattle.peeling.proofs.Visiting.{listed, chosen-inside, chosen-line, one_inside}
-use mathlib.Core.Path.{◌≡◌}
+use mathlib.Core.Path.{◌≡◌, sym, ◌∙◌}
 use lib.ListN.{get_or}
-use Rattle.groups.specs.Lent.{number_of}
 use native.Mathlib.Omega.{arith}
+use Rattle.groups.specs.Lent.{number_of}
+use Rattle.peeling.proofs.Visiting.{listed, chosen-line, one_inside, one-visited, passed_over, passed_by}
 use Rattle.peeling.proofs.passes.visit_group.Goals as goal
 
-pub count-requires : goal.count-requires
-count-requires c =
-    (omega (arith, listed c.args.rows c.args.columns c.args.which c.requires.1, c.requires.0.sides.rows_high, c.requires.0.sides.columns_high), c.requires.0.sides.counts)
+pub returns-then-not-alone : goal.returns-then-not-alone
+returns-then-not-alone c =
+    (passed_over _ _ _ _ c.requires.0 _ c.requires.1 (λ e. c.if-not-alone.true (c.count-alone.ensures ∙ e)), c.requires.0)
 
-pub first_faulty-n-requires : goal.first_faulty-n-requires
-first_faulty-n-requires c =
-    chosen-inside _ _ c.args.marks.now _ _ c.choose-chosen.ensures.0 _ _ _ c.choose-chosen.ensures.1 c.requires.0.mark_bytes
+pub returns-in_default : goal.returns-in_default
+returns-in_default c =
+    let found = chosen-line _ _ _ _ _ c.choose-chosen.ensures.0 _ _ _ c.choose-chosen.ensures.1 _ c.first_faulty.ensures in
+    (passed_by _ _ _ _ c.requires.0 _ c.requires.1 (sym c.in_default.is ∙ found), c.requires.0)
 
 pub rebuild-requires : goal.rebuild-requires
 rebuild-requires c =
-    let one : get_or c.args.faulty.now (number_of c.args.rows c.args.which) 0 ≡ 1 =
-    omega (arith, c.count.ensures) in
-    let found = chosen-line _ _ _ _ _ c.choose-chosen.ensures.0 _ _ _ c.choose-chosen.ensures.1 _ c.first_faulty-n.ensures in
-    let line = one_inside _ _ _ _ c.requires.0 _ (listed c.args.rows c.args.columns c.args.which c.requires.1) one _ found in
+    let one : get_or c.args.faulty.now (number_of c.args.sides.rows c.args.which) 0 ≡ 1 = omega (arith, c.count-alone.ensures) in
+    let found = chosen-line _ _ _ _ _ c.choose-chosen.ensures.0 _ _ _ c.choose-chosen.ensures.1 _ c.first_faulty.ensures in
+    let line = one_inside _ _ _ _ c.requires.0 _ (listed c.args.sides.rows c.args.sides.columns c.args.which c.requires.1) one _ (sym c.in-Some.is ∙ found) in
     (c.requires.0, line.0, line.1)
+
+pub returns : goal.returns
+returns c =
+    let one : get_or c.args.faulty.now (number_of c.args.sides.rows c.args.which) 0 ≡ 1 = omega (arith, c.count-alone.ensures) in
+    let found = chosen-line _ _ _ _ _ c.choose-chosen.ensures.0 _ _ _ c.choose-chosen.ensures.1 _ c.first_faulty.ensures in (
+      rw c.rebuild.ensures.0 (one-visited _ _ _ _ c.requires.0 _ (listed c.args.sides.rows c.args.sides.columns c.args.which c.requires.1) one _ (sym c.in-Some.is ∙ found)),
+      c.rebuild.ensures.1,
+    )
