@@ -6,13 +6,12 @@ use Prim.Native.Nat.{ℕ}
 use borrow.Author.Tests.{eq-eqb, ne_eqb}
 use Rattle.rectangle.specs.Repair.{Buffers, StoreRepaired, hands_over, repair_store}
 use Rattle.storefile.specs.Header.{lines_part, row_table_part, column_table_part, bytes_in}
-use Rattle.storefile.specs.Opening.{opened}
+use Rattle.storefile.specs.Opening.{opened, Opened}
 use Rattle.results.specs.Marks.{counts_of}
+use Rattle.report.specs.declared.report.Checked.{Checked}
 use Rattle.report.specs.Check.{left_by, refused_with, repair_opened, counted, check_store}
 use Rattle.storefile.specs.declared.header.Part.{Part}
 use Rattle.results.specs.declared.marks.Counts.{Counts}
-use Rattle.storefile.specs.declared.opening.Opened.{Opened}
-use Rattle.report.specs.declared.report.Checked.{Checked}
 
 -- repair of three bodies, each found as a part of the file
 pub repair-bodies : (file : List ℕ) (rows columns : ℕ) (b : Buffers) (p q r : Part) (lines row_table column_table : List ℕ)

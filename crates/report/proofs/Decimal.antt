@@ -1,13 +1,11 @@
--- Decimal digits: the definition without its bound on digits, and how many there are.
+-- Decimal digits: the definition without its bound on digits.
 use mathlib.Core.Path.{◌≡◌, refl, sym, ap, ◌∙◌}
 use mathlib.Core.Bool.{Bool, true, false}
 use mathlib.Core.List.{List, [], ◌∷◌, ◌++◌}
-use Prim.Native.Nat.{ℕ, zero, suc, ◌/◌, ◌%◌, ◌^◌, ◌≤◌, ◌<◌}
-use native.Mathlib.Nat.{div-lt_iff_lt-mul, pow-suc}
+use Prim.Native.Nat.{ℕ, zero, suc, ◌/◌, ◌%◌, ◌≤◌, ◌<◌}
 use native.Mathlib.Omega.{arith}
-use borrow.Author.Tests.{lt-ltb, le-ltb, ltb-true, ltb-false}
+use borrow.Author.Tests.{lt-ltb, le-ltb, ltb-false}
 use lib.Dec.{ltb}
-use lib.ListN.{length, length-append}
 use Rattle.report.specs.Report.{digit, decimal_up_to, decimal}
 
 -- a number below ten has one digit, whatever the bound
@@ -43,16 +41,3 @@ decimal-more zero h = let z : ⊥ = omega arith in absurd z
 decimal-more (suc n) h =
     up-to-more n (suc n) h
     ∙ ap (λ (l : List ℕ). l ++ (digit (suc n % 10) ∷ [])) (enough n (suc n / 10) (suc n / 10) (omega arith) (omega arith))
-
--- k + 1 digits hold every number below the power of ten
-pub length-decimal : (k n : ℕ) → n < 10 ^ suc k → length (decimal n) ≤ suc k
-length-decimal zero n h = let e = ap length (decimal-small n h) in omega arith
-length-decimal (suc k) n h =
-    go (ltb n 10) refl
-    (length-decimal k (n / 10) ((div-lt_iff_lt-mul {k = 10} {x = n} {y = 10 ^ suc k} (omega arith)).1 (rw (pow-suc 10 (suc k)) at h)))
-  where
-    go : (b : Bool) → ltb n 10 ≡ b → length (decimal (n / 10)) ≤ suc k → length (decimal n) ≤ suc (suc k)
-    go true e higher = let one = ap length (decimal-small n (ltb-true n 10 e)) in omega arith
-    go false e higher =
-        let more = ap length (decimal-more n (ltb-false n 10 e)) in
-        omega (arith, length-append (decimal (n / 10)) (digit (n % 10) ∷ []))

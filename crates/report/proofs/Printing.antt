@@ -9,43 +9,20 @@ use lib.Dec.{eqb}
 use lib.ListN.{length, take, drop, replicate, length-append, length-replicate}
 use lib.Seq.{length-take-le}
 use Rattle.linecode.specs.Places.{line_bytes}
-use Rattle.storefile.specs.Opening.{rows_in, columns_in, sides_within, opened}
+use Rattle.storefile.specs.Opening.{Opened, opened}
 use Rattle.report.specs.Report.{report_text, report_bytes, ReportWritten, write_report}
-use Rattle.rectangle.specs.Repair.{Buffers}
-use Rattle.report.specs.Check.{lent, StoreChecked, check_store}
-use Rattle.report.specs.Program.{program_side, zero_buffers, program_report}
 use Rattle.report.specs.declared.report.Checked.{Checked}
-use Rattle.storefile.specs.declared.opening.Opened.{Opened}
-use Rattle.storefile.proofs.Openings.{sides-within, Outcome, refused, accepted, outcome}
+use Rattle.rectangle.specs.Answers.{number_of}
+use Rattle.rectangle.specs.Repair.{Buffers}
+use Rattle.rectangle.specs.declared.answers.Refusal.{Refusal}
+use Rattle.rectangle.proofs.Numbers.{number-not-zero}
+use Rattle.report.specs.Check.{lent, StoreChecked, refused_with, check_store}
+use Rattle.report.proofs.Checking.{check-refused}
+use Rattle.report.specs.Program.{program_side, zero_buffers, program_checked}
 
--- rows and columns of a file that opens are at most the limit; of another they are 0
-within-limit : (limit : ℕ) (file : List ℕ) (o : Opened) → o ≡ opened limit file → (o.rows ≤ limit) × (o.columns ≤ limit)
-within-limit limit file o is = go (outcome limit file o is)
-  where
-    go : Outcome limit file o → (o.rows ≤ limit) × (o.columns ≤ limit)
-    go (refused d e) =
-        let r = ap (λ (x : Opened). x.rows) e in
-        let c = ap (λ (x : Opened). x.columns) e in
-        (omega arith, omega arith)
-    go (accepted e h) = inside h.within
-      where
-        inside : sides_within limit (rows_in file) (columns_in file) ≡ true → (o.rows ≤ limit) × (o.columns ≤ limit)
-        inside w =
-            let r = ap (λ (x : Opened). x.rows) e in
-            let c = ap (λ (x : Opened). x.columns) e in
-            let both = sides-within limit (rows_in file) (columns_in file) w in
-            (omega (arith, both.0), omega (arith, both.1))
-
--- so the program's arrays hold a store that it opens
-pub record Few (o : Opened) : Type 0 where
-  pub rows : o.rows ≤ 16
-  pub columns : o.columns ≤ 16
-  pub lines : o.rows * o.columns ≤ 256
-
-pub program-few : (file : List ℕ) (o : Opened) → o ≡ opened 16 file → Few o
-program-few file o is =
-    let small = within-limit 16 file o is in
-    record { rows = small.0; columns = small.1; lines = mul-le-mul small.0 small.1 }
+-- the program's arrays hold a store that it opens
+pub few : (rows columns : ℕ) → rows ≤ 16 → columns ≤ 16 → rows * columns ≤ 256
+few rows columns h k = mul-le-mul h k
 
 -- ---- the work buffers
 abbrev pub zeros : ℕ → List ℕ
@@ -62,32 +39,37 @@ room k n h = sym (length-take-le k (zeros n) (omega (arith, length-replicate {A 
 same-buffers : {k l m n k' l' m' n' : List ℕ} → k ≡ k' → l ≡ l' → m ≡ m' → n ≡ n' → lent k l m n ≡ lent k' l' m' n'
 same-buffers e f g h = cc
 
-module _ (file text : List ℕ) (o : Opened) (is : o ≡ opened 16 file) where
+module _ (file : List ℕ) (rows columns : ℕ) (is : record { answer = 0; rows = rows; columns = columns } ≡ opened 16 file) (high : rows ≤ 16)
+    (wide : columns ≤ 16) where
   -- the first bytes of the program's arrays
-  abbrev first : Buffers
-  first =
-      lent (take (o.rows * o.columns * 70) (zeros 17920)) (take (o.rows * o.columns) (zeros 256))
-      (take (o.rows * 70) (zeros 1120)) (take (o.columns * 70) (zeros 1120))
+  abbrev first : ℕ → Buffers
+  first lines =
+      lent (take (lines * 70) (zeros 17920)) (take lines (zeros 256)) (take (rows * 70) (zeros 1120)) (take (columns * 70) (zeros 1120))
 
-  just-hold : first ≡ zero_buffers o.rows o.columns
+  just-hold : first (rows * columns) ≡ zero_buffers rows columns
   unfolding zero_buffers line_bytes
   just-hold =
-      let few = program-few file o is in
+      let lines = few rows columns high wide in
       same-buffers
-      (take-zeros (o.rows * o.columns * 70) 17920 (omega arith))
-      (take-zeros (o.rows * o.columns) 256 few.lines)
-      (take-zeros (o.rows * 70) 1120 (omega arith))
-      (take-zeros (o.columns * 70) 1120 (omega arith))
+      (take-zeros (rows * columns * 70) 17920 (omega arith))
+      (take-zeros (rows * columns) 256 lines)
+      (take-zeros (rows * 70) 1120 (omega arith))
+      (take-zeros (columns * 70) 1120 (omega arith))
 
-  pub program-printed : (k : Checked) (after : Buffers)
-      → ◌≡◌ {A = StoreChecked} (record { checked = k; buffers = after }) (check_store 16 file first)
-      → (w : ReportWritten) → w ≡ write_report k text → w ≡ program_report file text
-  unfolding program_report program_side
-  program-printed k after e w f =
-      f
-      ∙ ap (λ (s : StoreChecked). write_report s.checked text) e
-      ∙ ap (λ (b : Buffers). write_report (check_store 16 file b).checked text) just-hold
-      ∙ ap (λ (x : Opened). write_report (check_store 16 file (zero_buffers x.rows x.columns)).checked text) is
+  pub program-checks : (lines : ℕ) → lines ≡ rows * columns → (k : Checked) (after : Buffers)
+      → ◌≡◌ {A = StoreChecked} (record { checked = k; buffers = after }) (check_store 16 file (first lines)) → k ≡ program_checked file
+  unfolding program_checked program_side
+  program-checks lines all k after e =
+      ap (λ (s : StoreChecked). s.checked) e
+      ∙ ap (λ (b : Buffers). (check_store 16 file b).checked) (ap first all ∙ just-hold)
+      ∙ ap (λ (x : Opened). (check_store 16 file (zero_buffers x.rows x.columns)).checked) is
+
+-- a file that does not open is checked in no buffers
+pub program-refuses : (file : List ℕ) (refusal : Refusal) → record { answer = number_of refusal; rows = 0; columns = 0 } ≡ opened 16 file
+    → refused_with (number_of refusal) ≡ program_checked file
+unfolding program_checked program_side
+program-refuses file refusal e =
+    ap (λ (s : StoreChecked). s.checked) (check-refused 16 file _ _ e (number-not-zero refusal) (refused_with (number_of refusal)) refl)
 
 -- ---- the text lies inside its buffer
 pub report-inside : (k : Checked) (text after : List ℕ) (answer size : ℕ)

@@ -17,10 +17,10 @@ use Rattle.rectangle.proofs.Tests.{every-at, not-among, either_way}
 use Rattle.storefile.specs.Opening.{rows_in, columns_in, open_refusal, opened}
 use Rattle.results.specs.Marks.{count_of, counts_of, no_counts, total}
 use Rattle.report.specs.Report.{ReportWritten, report_bytes, write_report}
+use Rattle.report.specs.declared.report.Checked.{Checked}
 use Rattle.report.specs.Check.{left_by, StoreChecked, refused_with, repair_opened, counted, check_store}
 use Rattle.report.specs.Numbers.{check_numbers, check_file}
 use Rattle.report.specs.Promises.{CheckCountsLines, CheckRefusalsWriteNothing, NumbersCountMarks, NineNotGiven}
-use Rattle.report.specs.declared.report.Checked.{Checked}
 use Rattle.storefile.proofs.Answers as Opening
 use Rattle.storefile.proofs.Answers.{open_answers, opening-answers}
 use Rattle.storefile.proofs.Openings.{Outcome, accepted, refused, outcome}

@@ -7,8 +7,7 @@ use native.Mathlib.Omega.{arith}
 use lib.ListN.{length, take}
 use lib.Seq.{take_all}
 use Rattle.storefile.specs.Header.{header_bytes}
-use Rattle.storefile.specs.Opening.{open_refusal, opened, bytes_needed}
-use Rattle.storefile.specs.declared.opening.Opened.{Opened}
+use Rattle.storefile.specs.Opening.{open_refusal, opened, bytes_needed, Opened}
 use Rattle.storefile.proofs.Openings.{opened-refused}
 use Rattle.storefile.proofs.Needed.{Refused, both-refused}
 use Rattle.rectangle.specs.Repair.{Buffers}

@@ -2,9 +2,8 @@
 use Rattle.std.specs.Prelude.{cond, List, ℕ, eqb}
 use Rattle.rectangle.specs.Repair.{Buffers, StoreRepaired, hands_over, repair_store}
 use Rattle.storefile.specs.Header.{lines_part, row_table_part, column_table_part, bytes_in}
-use Rattle.storefile.specs.Opening.{opened}
+use Rattle.storefile.specs.Opening.{Opened, opened}
 use Rattle.results.specs.Marks.{counts_of, no_counts}
-use Rattle.storefile.specs.declared.opening.Opened.{Opened}
 use Rattle.report.specs.declared.report.Checked.{Checked}
 
 -- the four buffers that repair writes

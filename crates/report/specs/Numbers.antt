@@ -1,8 +1,8 @@
 -- Document 01, "Store file": the report's numbers, as a program in another language reads them.
 use Rattle.std.specs.Prelude.{List, [], ◌∷◌, ℕ}
 use Rattle.rectangle.specs.Repair.{Buffers}
-use Rattle.report.specs.Check.{check_store}
 use Rattle.report.specs.declared.report.Checked.{Checked}
+use Rattle.report.specs.Check.{check_store}
 
 -- rows and columns, how many lines have each of the marks 0 to 4, and the passes
 unfoldable pub check_numbers : Checked → List ℕ

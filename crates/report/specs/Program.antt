@@ -3,6 +3,7 @@ use Rattle.std.specs.Prelude.{List, ℕ, ◌*◌, replicate}
 use Rattle.linecode.specs.Places.{line_bytes}
 use Rattle.storefile.specs.Opening.{opened}
 use Rattle.report.specs.Report.{ReportWritten, write_report}
+use Rattle.report.specs.declared.report.Checked.{Checked}
 use Rattle.rectangle.specs.Repair.{Buffers}
 use Rattle.report.specs.Check.{check_store}
 
@@ -20,8 +21,12 @@ zero_buffers rows columns =
       column_table = replicate (columns * line_bytes) 0;
     }
 
--- the report on a file, in the first bytes of a text buffer; the store is repaired in such buffers, empty for a file that is not opened
-unfoldable pub program_report : List ℕ → List ℕ → ReportWritten
-program_report file text =
+-- a check of a file; the store is repaired in such buffers, empty for a file that is not opened
+unfoldable pub program_checked : List ℕ → Checked
+program_checked file =
     let o = opened program_side file in
-    write_report (check_store program_side file (zero_buffers o.rows o.columns)).checked text
+    (check_store program_side file (zero_buffers o.rows o.columns)).checked
+
+-- the report on a file, in the first bytes of a text buffer
+unfoldable pub program_report : List ℕ → List ℕ → ReportWritten
+program_report file text = write_report (program_checked file) text

@@ -5,9 +5,9 @@ use Rattle.storefile.specs.Header.{header_bytes}
 use Rattle.storefile.specs.Opening.{bytes_needed}
 use Rattle.results.specs.Marks.{count_of, total}
 use Rattle.report.specs.Report.{decimal, write_report}
+use Rattle.report.specs.declared.report.Checked.{Checked}
 use Rattle.report.specs.Check.{refused_with, check_store}
 use Rattle.report.specs.Numbers.{check_file}
-use Rattle.report.specs.declared.report.Checked.{Checked}
 
 -- ---- a reader that stops after the bytes it needs gives the same answer: those that follow change nothing
 abbrev pub MoreChangesNothing : Type 0

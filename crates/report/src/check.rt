@@ -1,55 +1,79 @@
 // A check of a whole store: opened, repaired into lent buffers, its marks counted.
-ghost use Rattle.std.specs.Prelude.{◌≡◌, ◌≤◌};
+ghost use Rattle.std.specs.Prelude.{◌≡◌};
 ghost use Rattle.rectangle.specs.Repair.{StoreRepaired};
-ghost use Rattle.report.specs.Check.{lent, StoreChecked, refused_with, repair_opened, check_store};
+ghost use Rattle.repair.specs.Answer.{repair_answer, repair_passes};
+ghost use Rattle.report.specs.Check.{lent, StoreChecked, repair_opened, check_store};
+ghost use Rattle.report.specs.Given.{checked_as};
 
 use crate::report::Checked;
+use rectangle::answers::{Outcome, Refusal};
+use rectangle::sizes::Sides;
 use repair::Repaired;
-use results::{answers, marks};
+use results::marks;
+use results::marks::Counts;
 use storefile::{header, opening};
 
-// A refusal: every value is 0.
-fn refused(answer: u32) -> Checked
-    ensures { result ≡ refused_with answer }
-{
-    Checked {
-        answer,
-        rows: 0,
-        columns: 0,
-        counts: marks::none(),
-        passes: 0,
+// What a check finds of a store that repair hands over.
+#[derive(Clone, Copy)]
+pub struct Found {
+    pub outcome: Outcome,
+    pub sides: Sides,
+    pub counts: Counts,
+    pub passes: usize,
+}
+
+// A refusal: every value but its number is 0.
+impl From<Result<Found, Refusal>> for Checked {
+    ghost from_gives = { λ found checked. checked ≡ checked_as found };
+
+    #[tactic(auto, unfolding(crate::specs::Check::refused_with, results::specs::Marks::no_counts))]
+    fn from(found: Result<Found, Refusal>) -> Checked {
+        match found {
+            Ok(found) => Checked {
+                answer: found.outcome.into(),
+                rows: found.sides.rows,
+                columns: found.sides.columns,
+                counts: found.counts,
+                passes: found.passes,
+            },
+            Err(refusal) => Checked {
+                answer: refusal.into(),
+                rows: 0,
+                columns: 0,
+                counts: Counts::default(),
+                passes: 0,
+            },
+        }
     }
 }
 
-// Repair of an opened file's bodies.
+// Repair of an opened file's bodies. The four buffers come one by one here and below, as C hands them over.
 fn repair_opened(
     file: &[u8],
-    rows: usize,
-    columns: usize,
+    sides: Sides,
     out: &mut [u8],
     marks: &mut [u8],
     row_out: &mut [u8],
     column_out: &mut [u8],
-) -> Repaired
-    requires { (rows ≤ 512) × (columns ≤ 512) }
+) -> Result<Repaired, Refusal>
     ensures { ◌≡◌ {A = StoreRepaired}
         (record {
-          answer = result.answer;
-          passes = result.passes;
+          answer = repair_answer result;
+          passes = repair_passes result;
           lines = out.new;
           marks = marks.new;
           row_table = row_out.new;
           column_table = column_out.new;
         })
-        (repair_opened file.now rows columns
+        (repair_opened file.now sides.rows sides.columns
         (lent out.old marks.old row_out.old column_out.old)) }
 {
-    let lines = opening::part_of(file, header::lines_part(rows, columns));
-    let row_table = opening::part_of(file, header::row_table_part(rows, columns));
-    let column_table = opening::part_of(file, header::column_table_part(rows, columns));
+    let lines = opening::part_of(file, header::lines_part(sides));
+    let row_table = opening::part_of(file, header::row_table_part(sides));
+    let column_table = opening::part_of(file, header::column_table_part(sides));
     repair::repair(
-        rows,
-        columns,
+        sides.rows,
+        sides.columns,
         lines,
         row_table,
         column_table,
@@ -68,31 +92,23 @@ pub fn check_within(
     marks: &mut [u8],
     row_out: &mut [u8],
     column_out: &mut [u8],
-) -> Checked
+) -> Result<Found, Refusal>
     ensures { ◌≡◌ {A = StoreChecked}
         (record {
-          checked = result;
+          checked = checked_as result;
           buffers = lent out.new marks.new row_out.new column_out.new;
         })
         (check_store limit file.now
         (lent out.old marks.old row_out.old column_out.old)) }
 {
-    let o = opening::open_within(limit, file);
-    if o.answer != 0 {
-        return refused(o.answer);
-    }
-    let r = repair_opened(file, o.rows, o.columns, out, marks, row_out, column_out);
-    if !answers::hands_over(r.answer) {
-        return refused(r.answer);
-    }
-    let counts = marks::count_all(marks);
-    Checked {
-        answer: r.answer,
-        rows: o.rows,
-        columns: o.columns,
-        counts,
-        passes: r.passes,
-    }
+    let sides = opening::open_within(limit, file)?;
+    let repaired = repair_opened(file, sides, out, marks, row_out, column_out)?;
+    Ok(Found {
+        outcome: repaired.outcome,
+        sides,
+        counts: marks::count_all(marks),
+        passes: repaired.passes,
+    })
 }
 
 // A check of a store.
@@ -102,10 +118,10 @@ pub fn check(
     marks: &mut [u8],
     row_out: &mut [u8],
     column_out: &mut [u8],
-) -> Checked
+) -> Result<Found, Refusal>
     ensures { ◌≡◌ {A = StoreChecked}
         (record {
-          checked = result;
+          checked = checked_as result;
           buffers = lent out.new marks.new row_out.new column_out.new;
         })
         (check_store 512 file.now

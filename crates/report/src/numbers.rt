@@ -4,7 +4,8 @@ ghost use Rattle.report.specs.Numbers.{check_numbers};
 
 use crate::report::Checked;
 
-// Rows and columns, the counts of marks 0 to 4, and the passes.
+// Rows and columns, the counts of marks 0 to 4, and the passes. A function, which callers have: a `From` would say the same again.
+#[tactic(auto, unfolding(crate::specs::Numbers::check_numbers))]
 pub fn numbers(c: Checked) -> [u64; 8]
     ensures { result ≡ check_numbers c }
 {

@@ -1,13 +1,19 @@
 // The report that `storecheck` prints, as bytes in a lent buffer.
+// The buffer and the place to write at go apart: of a struct that held them each function would promise that it holds the same buffer still.
 ghost use Rattle.std.specs.Prelude.{◌≡◌, ◌+◌, ◌≤◌, length};
 ghost use Rattle.storefile.specs.Bytes.{Put};
-ghost use Rattle.report.specs.Report.{decimal, spaced, line, store_line, count_lines, lines_above, write_report};
+ghost use Rattle.rectangle.specs.Answers.{answer_of};
+ghost use Rattle.report.specs.Given.{size_of};
+ghost use Rattle.report.specs.Report.{spaced, line, store_line, count_lines, lines_above, write_report};
 
+use itoa::Buffer;
+use rectangle::answers::Refusal;
 use results::answers;
 use results::marks::Counts;
 use storefile::bytes;
 
-// What a check of a store answers, its rows and columns, the counts of its marks, and the passes.
+// What a check of a store answers, its rows and columns, the counts of its marks, and the passes, in numbers: `report` and
+// `numbers` promise something of any answer, as the definitions do. What a check gives is `check::Found`.
 #[derive(Clone, Copy)]
 pub struct Checked {
     pub answer: u32,
@@ -17,36 +23,15 @@ pub struct Checked {
     pub passes: usize,
 }
 
-// What writing the report answers: 0 and its length, or 7 and 0.
-#[derive(Clone, Copy)]
-pub struct Reported {
-    pub answer: u32,
-    pub size: usize,
-}
-
-// A number in decimal, put from a place on: the higher digits first, then the last.
-#[tactic(auto, using(crate::proofs::Writing::last_digit))]
-pub fn put_decimal(out: &mut [u8], at: usize, n: usize) -> usize
-    requires { at + length (decimal n) ≤ length out.old }
-    ensures { Put out.old at (decimal n) out.new result }
-{
-    if n < 10 {
-        out[at] = 48 + n as u8;
-        return at + 1;
-    }
-    let last = put_decimal(out, at, n / 10);
-    out[last] = 48 + (n % 10) as u8;
-    last + 1
-}
-
-// A space and a number, at most 21 bytes.
+// A space and a number in decimal, at most 21 bytes. Not by `write!`, which doesn't promise that it writes what there is room for.
 fn put_spaced(out: &mut [u8], at: usize, n: usize) -> usize
     requires { at + 21 ≤ length out.old }
     ensures written { Put out.old at (spaced n) out.new result }
     ensures short { result ≤ at + 21 }
 {
     let first = bytes::put_bytes(out, at, b" ");
-    put_decimal(out, first, n)
+    let mut digits = Buffer::new();
+    bytes::put_bytes(out, first, digits.format(n).as_bytes())
 }
 
 // A line of the report.
@@ -91,32 +76,21 @@ fn put_above(out: &mut [u8], c: Checked) -> usize
     ensures written { Put out.old 0 (lines_above c) out.new result }
     ensures short { result ≤ 214 }
 {
-    let counts = c.counts;
     let counted = put_store(out, c.rows, c.columns);
-    let passes = put_counts(out, counted, counts);
+    let passes = put_counts(out, counted, c.counts);
     put_line(out, passes, b"passes", c.passes)
 }
 
-// The report, put from the buffer's start on: where nothing is handed over (any answer but 0, 11 and 12) only its last line.
-#[tactic(auto, using(crate::proofs::Writing::last_alone))]
-pub fn report(c: Checked, out: &mut [u8]) -> Reported
-    ensures { record { answer = result.answer; size = result.size; out = out.new } ≡ write_report c out.old }
+// The report, put from the buffer's start on, and its length: where nothing is handed over (any answer but 0, 11 and 12) only its last line.
+pub fn report(c: Checked, out: &mut [u8]) -> Result<usize, Refusal>
+    ensures { record { answer = answer_of result; size = size_of result; out = out.new } ≡ write_report c out.old }
 {
     if out.len() != 256 {
-        return Reported { answer: 7, size: 0 };
+        return Err(Refusal::Room);
     }
-    let answer = c.answer;
-    if !answers::hands_over(answer) {
-        let end = put_line(out, 0, b"answer", answer as usize);
-        return Reported {
-            answer: 0,
-            size: end,
-        };
-    }
+    let Some(_) = answers::hands_over(c.answer) else {
+        return Ok(put_line(out, 0, b"answer", c.answer as usize));
+    };
     let last = put_above(out, c);
-    let end = put_line(out, last, b"answer", answer as usize);
-    Reported {
-        answer: 0,
-        size: end,
-    }
+    Ok(put_line(out, last, b"answer", c.answer as usize))
 }

@@ -1,5 +1,5 @@
 -- Counting marks: lists one after the other, and mark after mark.
-use mathlib.Core.Path.{◌≡◌, sym, ap, ◌∙◌}
+use mathlib.Core.Path.{◌≡◌, refl, sym, ap, ◌∙◌}
 use mathlib.Core.Bool.{Bool, true, false, cond}
 use mathlib.Core.List.{List, [], ◌∷◌, ◌++◌}
 use Prim.Native.Nat.{ℕ, suc, ◌+◌, ◌≤◌, ◌<◌}
@@ -8,6 +8,7 @@ use native.Mathlib.Omega.{arith}
 use lib.Dec.{eqb}
 use lib.ListN.{length, drop, get_or, drop_of_length-le}
 use lib.Seq.{drop-cons}
+use Rattle.std.specs.Int.{from_bool}
 use Rattle.scheme.specs.Visit.{select}
 use Rattle.results.specs.Marks.{count_of, counts_of, plus_counts}
 use Rattle.results.specs.Promises.{CountsTogether}
@@ -53,21 +54,26 @@ pub record Counting (marks : List ℕ) (mark found i : ℕ) : Type 0 where
 pub counting-start : (marks : List ℕ) (mark : ℕ) → Counting marks mark 0 0
 counting-start marks mark = record { few = omega arith; small = omega arith; counted = omega arith }
 
+-- whether a mark is found once
+one-mark : (mark m : ℕ) → from_bool (eqb m mark) ≡ count_of mark (m ∷ [])
+unfolding count_of
+one-mark mark m = go (eqb m mark)
+  where
+    go : (t : Bool) → from_bool t ≡ length (cond t (m ∷ []) [])
+    go true = refl
+    go false = refl
+
 module _ (marks : List ℕ) (mark found i : ℕ) (p : Counting marks mark found i) where
-  pub counting-step : i < length marks → (one f : ℕ) → one ≡ count_of mark (get_or marks i 0 ∷ []) → f ≡ found + one
-      → Counting marks mark f (i + 1)
-  counting-step h one f e g =
+  pub counting-step : i < length marks → (one : ℕ) → one ≡ from_bool (eqb (get_or marks i 0) mark) → Counting marks mark (found + one) (i + 1)
+  counting-step h one e =
       let here = get_or marks i 0 in
       let next : drop i marks ≡ here ∷ drop (i + 1) marks =
       drop-cons marks i 0 h ∙ ap (λ (k : ℕ). here ∷ drop k marks) (sym (add-one i)) in
       let split : count_of mark (drop i marks) ≡ count_of mark (here ∷ []) + count_of mark (drop (i + 1) marks) =
       ap (count_of mark) next ∙ count-together mark (here ∷ []) (drop (i + 1) marks) in
       let most : count_of mark (here ∷ []) ≤ 1 = count-few mark (here ∷ []) in
-      record { few = omega (arith, h); small = omega (arith, p.small, most, e, g); counted = omega (arith, p.counted, split, e, g) }
-
-  -- with one more counted, of whatever mark, it fits where the piece's length does
-  pub piece-fits : i < length marks → (other one : ℕ) → one ≡ count_of other (get_or marks i 0 ∷ []) → found + one ≤ length marks
-  piece-fits h other one e = let most = count-few other (get_or marks i 0 ∷ []) in omega (arith, h, e, most, p.small)
+      let same : one ≡ count_of mark (here ∷ []) = e ∙ one-mark mark here in
+      record { few = omega (arith, h); small = omega (arith, p.small, most, same); counted = omega (arith, p.counted, split, same) }
 
   pub counting-end : length marks ≤ i → found ≡ count_of mark marks
   unfolding count_of

@@ -2,3 +2,4 @@
 pub mod Counting
 pub mod Adding
 pub mod Pieces
+pub mod Outcomes

@@ -1,16 +1,13 @@
 // The answers of repair.
-ghost use Rattle.std.specs.Prelude.{◌≡◌};
+ghost use Rattle.std.specs.Prelude.{◌≡◌, true, false, MatchOption};
+ghost use Rattle.rectangle.specs.Answers.{outcome_number};
 ghost use Rattle.rectangle.specs.Repair.{hands_over};
 
-// Whether repair hands a store over with an answer.
-pub fn hands_over(answer: u32) -> bool
-    ensures { result ≡ hands_over answer }
+use rectangle::answers::Outcome;
+
+// With what repair hands a store over, where an answer says that it does.
+pub fn hands_over(answer: u32) -> Option<Outcome>
+    ensures { MatchOption result (hands_over answer ≡ false) (λ outcome. (hands_over answer ≡ true) × (outcome_number outcome ≡ answer)) }
 {
-    if answer == 0 {
-        return true;
-    }
-    if answer == 11 {
-        return true;
-    }
-    answer == 12
+    Outcome::try_from(answer).ok()
 }

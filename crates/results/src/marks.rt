@@ -1,9 +1,11 @@
 // How often each mark stands in a mark buffer.
-ghost use Rattle.std.specs.Prelude.{◌≡◌, [], ◌∷◌, ◌+◌, ◌≤◌, ◌<◌, length};
-ghost use Rattle.results.specs.Marks.{count_of, counts_of, no_counts, total, plus_counts};
+ghost use Rattle.std.specs.Prelude.{◌≡◌, ◌+◌, ◌≤◌, ◌<◌, length};
+ghost use Rattle.results.specs.Marks.{counts_of, total, plus_counts};
 
-// The counts of marks 0 to 4.
-#[derive(Clone, Copy)]
+use std::ops::Add;
+
+// The counts of marks 0 to 4; where nothing was counted, the default.
+#[derive(Clone, Copy, Default)]
 pub struct Counts {
     pub clean: u64,
     pub alone: u64,
@@ -12,38 +14,24 @@ pub struct Counts {
     pub faulty: u64,
 }
 
-// Where nothing was counted.
-pub fn none() -> Counts
-    ensures { result ≡ no_counts }
-{
-    Counts {
-        clean: 0,
-        alone: 0,
-        trial: 0,
-        rebuilt: 0,
-        faulty: 0,
-    }
-}
-
 // The counts of two lists of marks together, in turn. Callers know that they are small.
-pub fn plus(a: Counts, b: Counts) -> Counts
-    requires { total a + total b < 18446744073709551616 }
-    ensures { result ≡ plus_counts a b }
-{
-    Counts {
-        clean: a.clean + b.clean,
-        alone: a.alone + b.alone,
-        trial: a.trial + b.trial,
-        rebuilt: a.rebuilt + b.rebuilt,
-        faulty: a.faulty + b.faulty,
-    }
-}
+impl Add for Counts {
+    type Output = Counts;
 
-// How often a mark stands in a list of one mark.
-fn is(found: u8, mark: u8) -> u8
-    ensures { result ≡ count_of mark (found ∷ []) }
-{
-    if found == mark { 1 } else { 0 }
+    ghost can_add = { λ a b. total a + total b < 18446744073709551616 };
+
+    ghost add_gives = { λ a b sum. sum ≡ plus_counts a b };
+
+    #[tactic(auto, unfolding(crate::specs::Marks::plus_counts))]
+    fn add(self, other: Counts) -> Counts {
+        Counts {
+            clean: self.clean + other.clean,
+            alone: self.alone + other.alone,
+            trial: self.trial + other.trial,
+            rebuilt: self.rebuilt + other.rebuilt,
+            faulty: self.faulty + other.faulty,
+        }
+    }
 }
 
 // The counts of a piece of at most 192 marks, which bytes hold: so the compiler counts sixteen marks at a step.
@@ -51,27 +39,24 @@ fn count_piece(marks: &[u8]) -> Counts
     requires { length marks.now ≤ 192 }
     ensures { result ≡ counts_of marks.now }
 {
-    let mut clean: u8 = 0;
-    let mut alone: u8 = 0;
-    let mut trial: u8 = 0;
-    let mut rebuilt: u8 = 0;
-    let mut faulty: u8 = 0;
-    let mut i = 0;
-    while i < marks.len() {
-        let mark = marks[i];
-        clean += is(mark, 0);
-        alone += is(mark, 1);
-        trial += is(mark, 2);
-        rebuilt += is(mark, 3);
-        faulty += is(mark, 4);
-        i += 1;
+    let mut clean = 0u8;
+    let mut alone = 0u8;
+    let mut trial = 0u8;
+    let mut rebuilt = 0u8;
+    let mut faulty = 0u8;
+    for &mark in marks {
+        clean += u8::from(mark == 0);
+        alone += u8::from(mark == 1);
+        trial += u8::from(mark == 2);
+        rebuilt += u8::from(mark == 3);
+        faulty += u8::from(mark == 4);
     }
     Counts {
-        clean: clean as u64,
-        alone: alone as u64,
-        trial: trial as u64,
-        rebuilt: rebuilt as u64,
-        faulty: faulty as u64,
+        clean: u64::from(clean),
+        alone: u64::from(alone),
+        trial: u64::from(trial),
+        rebuilt: u64::from(rebuilt),
+        faulty: u64::from(faulty),
     }
 }
 
@@ -79,15 +64,10 @@ fn count_piece(marks: &[u8]) -> Counts
 pub fn count_all(marks: &[u8]) -> Counts
     ensures { result ≡ counts_of marks.now }
 {
-    let mut counts = none();
-    let mut i = 0;
-    while 192 <= marks.len() - i {
-        let end = i + 192;
-        let piece = count_piece(&marks[i..end]);
-        let next = plus(counts, piece);
-        counts = next;
-        i = end;
+    let (pieces, rest) = marks.as_chunks::<192>();
+    let mut counts = Counts::default();
+    for piece in pieces {
+        counts = counts + count_piece(piece);
     }
-    let rest = count_piece(&marks[i..]);
-    plus(counts, rest)
+    counts + count_piece(rest)
 }

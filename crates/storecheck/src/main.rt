@@ -8,7 +8,8 @@ use report::program;
 use std::io::Read;
 use storefile::opening;
 
-// Reads until the buffer is full, the input ends or a read fails, and returns how many bytes it put at the buffer's start.
+// Reads until the buffer is full, the input ends or a read fails, and returns how many bytes it put at the buffer's start: `read_exact`
+// doesn't tell how many where the input ends before.
 fn read_full<R: Read>(input: &mut R, buf: &mut [u8]) -> usize
     ensures { IsPrefixLen result buf.new }
 {
@@ -40,7 +41,7 @@ fn read_bodies<R: Read>(input: &mut R, file: &mut [u8], needed: usize) -> usize
 }
 
 // Reads as many bytes as are needed to answer, and returns their number: the header tells how many. The largest store that is taken
-// has 20,188 bytes, and one byte more shows that a file is too long.
+// has 20,188 bytes, and one byte more shows that a file is too long. Room of a fixed size, and a number: nothing is allocated here.
 fn read_needed<R: Read>(input: &mut R, file: &mut [u8]) -> usize
     requires { length file.old ≡ 20189 }
     ensures { IsPrefixLen result file.new }
@@ -55,9 +56,9 @@ fn read_needed<R: Read>(input: &mut R, file: &mut [u8]) -> usize
 
 // Prints the report on a file. It ends alike whether all of it was written or not.
 fn print_report<P: Print>(to: &P, file: &[u8], text: &mut [u8]) {
-    let r = program::report_on(file, text);
-    let size = r.size;
-    let _ = to.write_all(&text[..size]);
+    if let Ok(size) = program::report_on(file, text) {
+        let _ = to.write_all(&text[..size]);
+    }
 }
 
 fn main(rt: HostRuntime) {

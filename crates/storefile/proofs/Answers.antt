@@ -9,9 +9,8 @@ use Rattle.scheme.specs.Demand3.{◌∈◌}
 use Rattle.rectangle.specs.Refusals.{sides_fit}
 use Rattle.rectangle.proofs.Tests.{refusal-in, not-among, either_way}
 use Rattle.storefile.specs.Header.{HeaderWritten, header_bytes, header_refusal, write_header}
-use Rattle.storefile.specs.Opening.{rows_in, columns_in, sides_within, contents_fit, open_refusal, opened}
+use Rattle.storefile.specs.Opening.{rows_in, columns_in, sides_within, contents_fit, open_refusal, opened, Opened}
 use Rattle.storefile.specs.Promises.{NineNotGiven}
-use Rattle.storefile.specs.declared.opening.Opened.{Opened}
 
 abbrev pub open_answers : List ℕ
 open_answers = 0 ∷ 1 ∷ 2 ∷ 3 ∷ 4 ∷ []

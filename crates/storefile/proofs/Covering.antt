@@ -9,10 +9,9 @@ use lib.ListN.{length, take, drop, length-drop, take-append-drop}
 use lib.Seq.{take_all, drop-drop, length-take-le}
 use Rattle.linecode.specs.Places.{line_bytes}
 use Rattle.storefile.specs.Header.{header_bytes, lines_part, row_table_part, column_table_part, file_length, bytes_in}
-use Rattle.storefile.specs.Opening.{rows_in, columns_in, entries_fit, contents_fit, opened, body}
+use Rattle.storefile.specs.Opening.{rows_in, columns_in, entries_fit, contents_fit, opened, body, Opened}
 use Rattle.storefile.specs.Promises.{BodiesCover, OpenedFileCovered, NoBodies, RefusedFileEmpty}
 use Rattle.storefile.specs.declared.header.Part.{Part}
-use Rattle.storefile.specs.declared.opening.Opened.{Opened}
 use Rattle.storefile.proofs.Openings.{Opens, Outcome, accepted, refused, outcome}
 use Rattle.storefile.proofs.MadeFile.{body_of}
 

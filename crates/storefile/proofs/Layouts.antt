@@ -1,25 +1,23 @@
 -- The numbers of a file's layout, case by case, and where they lead.
 use mathlib.Core.Path.{◌≡◌, refl, sym, ap, ◌∙◌}
-use mathlib.Core.List.{List, [], ◌∷◌}
+use mathlib.Core.List.{List, []}
 use Prim.Native.Nat.{ℕ}
 use borrow.Author.Tests.{ne_eqb}
 use lib.ListN.{replicate}
+use Rattle.std.specs.Prelude.{Result, Ok, Err, MatchResult}
+use Rattle.std.specs.Result.{IsOkAnd}
+use Rattle.rectangle.specs.declared.answers.Refusal.{Refusal}
+use Rattle.rectangle.specs.declared.sizes.Sides.{Sides}
+use Rattle.rectangle.proofs.Numbers.{number-not-zero}
+use Rattle.storefile.specs.Given.{opened_as, layout_as}
 use Rattle.storefile.specs.Header.{lines_part, row_table_part, column_table_part, bytes_in}
-use Rattle.storefile.specs.Opening.{rows_in, columns_in, opened, body}
-use Rattle.storefile.specs.Layout.{part_at, layout_numbers, layout_in}
+use Rattle.storefile.specs.Opening.{rows_in, columns_in, opened, body, Opened}
+use Rattle.storefile.specs.Layout.{part_at, layout_numbers, layout_in, Layout}
 use Rattle.storefile.specs.Promises.{NoBodies, LayoutFinds, LayoutFindsBodies}
 use Rattle.storefile.specs.declared.header.Part.{Part}
-use Rattle.storefile.specs.declared.layout.Layout.{Layout}
-use Rattle.storefile.specs.declared.opening.Opened.{Opened}
 use Rattle.storefile.proofs.Openings.{Outcome, accepted, refused, outcome}
 use Rattle.storefile.proofs.MadeFile.{body_of}
 use Rattle.storefile.proofs.Covering.{refused-file-empty}
-
-pub numbers-are : (rows columns : ℕ) (l r c : Part) → l ≡ lines_part rows columns → r ≡ row_table_part rows columns
-    → c ≡ column_table_part rows columns
-    → rows ∷ columns ∷ l.offset ∷ l.size ∷ r.offset ∷ r.size ∷ c.offset ∷ c.size ∷ [] ≡ layout_numbers rows columns
-unfolding layout_numbers
-numbers-are rows columns l r c e f g = rw (e, f, g)
 
 module _ (file : List ℕ) (o : Opened) (is : o ≡ opened 512 file) where
   pub layout-refused : (o.answer ≡ 0 → ⊥) → ◌≡◌ {A = Layout} (record { answer = o.answer; numbers = replicate 8 0 }) (layout_in file)
@@ -30,6 +28,14 @@ module _ (file : List ℕ) (o : Opened) (is : o ≡ opened 512 file) where
       → ◌≡◌ {A = Layout} (record { answer = 0; numbers = numbers }) (layout_in file)
   unfolding layout_in
   layout-found numbers e f = rw (f, ← is, e)
+
+-- the numbers of what opening gives
+pub layout-given : (file : List ℕ) (o : Result Sides Refusal) → opened_as o ≡ opened 512 file → (r : Result (List ℕ) Refusal)
+    → MatchResult o (λ sides. IsOkAnd r (λ numbers. numbers ≡ layout_numbers sides.rows sides.columns)) (λ refusal. r ≡ Err refusal)
+    → layout_as r ≡ layout_in file
+layout-given file (Ok sides) is (Ok numbers) e = layout-found file _ is numbers refl e
+layout-given file (Ok sides) is (Err refusal) e = absurd e
+layout-given file (Err refusal) is r e = rw e (layout-refused file _ is (number-not-zero refusal))
 
 -- ---- where the numbers lead
 module _ (file : List ℕ) (rows columns : ℕ) (e : opened 512 file ≡ record { answer = 0; rows = rows; columns = columns }) where

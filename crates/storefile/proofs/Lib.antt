@@ -1,7 +1,7 @@
 -- Laws of the store file's form.
 pub mod Placing
 pub mod Numbers
-pub mod Sides
+pub mod Small
 pub mod Headers
 pub mod Openings
 pub mod MadeFile

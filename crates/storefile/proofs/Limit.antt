@@ -10,9 +10,8 @@ use lib.ListN.{length}
 use Rattle.rectangle.specs.Refusals.{unless, sides_fit}
 use Rattle.rectangle.proofs.Groups.{sides}
 use Rattle.storefile.specs.Header.{header_bytes}
-use Rattle.storefile.specs.Opening.{rows_in, columns_in, sides_within, contents_fit, open_refusal, opened}
+use Rattle.storefile.specs.Opening.{rows_in, columns_in, sides_within, contents_fit, open_refusal, opened, Opened}
 use Rattle.storefile.specs.Promises.{ThreeInTheProgramOnly}
-use Rattle.storefile.specs.declared.opening.Opened.{Opened}
 use Rattle.storefile.proofs.Openings.{Outcome, accepted, refused, outcome}
 
 never-three : (a b c d : Bool) → (b ≡ true → c ≡ true) → unless a 1 (unless b 2 (unless c 3 (unless d 4 0))) ≡ 3 → ⊥

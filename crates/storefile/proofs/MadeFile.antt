@@ -12,14 +12,13 @@ use Rattle.rectangle.specs.Refusals.{sides_fit}
 use Rattle.rectangle.proofs.Groups.{sides}
 use Rattle.storefile.specs.Bytes.{little_endian, number_of, number_at}
 use Rattle.storefile.specs.Header.{header_bytes, lines_part, row_table_part, column_table_part, file_length, entry, header, bytes_in}
-use Rattle.storefile.specs.Opening.{entry_is, entries_fit, contents_fit, opened, body}
+use Rattle.storefile.specs.Opening.{entry_is, entries_fit, contents_fit, opened, body, Opened}
 use Rattle.storefile.specs.Promises.{FileRead, WrittenFileOpens}
 use Rattle.storefile.specs.declared.header.Part.{Part}
-use Rattle.storefile.specs.declared.opening.Opened.{Opened}
 use Rattle.storefile.proofs.Numbers.{number-bytes}
-use Rattle.storefile.proofs.Sides.{few-lines}
+use Rattle.storefile.proofs.Small.{few_lines}
 use Rattle.storefile.proofs.Headers.{length-header, header_made}
-use Rattle.storefile.proofs.Openings.{opens}
+use Rattle.storefile.proofs.Openings.{sides-told, opens}
 
 -- ---- parts of a file that is put together
 -- a part between what stands before it and after it
@@ -45,7 +44,7 @@ entry-is file at p e f = rw (eq-eqb (number_at file at 4) p.offset e) (eq-eqb (n
 -- ---- what the header tells, whatever follows it
 module _ (rows columns : ℕ) (high : rows ≤ 512) (wide : columns ≤ 512) (rest : List ℕ) where
   few : rows * columns ≤ 262144
-  few = few-lines rows columns high wide
+  few = few_lines rows columns high wide
 
   file : List ℕ
   file = header rows columns ++ rest
@@ -124,11 +123,12 @@ module _ (rows columns : ℕ) (l r c : List ℕ) (fit : sides_fit rows columns �
       let s = sides rows columns fit in
       let rest = l ++ (r ++ c) in
       ap (opened limit) whole_is
-      ∙ sym (opens limit (header rows columns ++ rest)
+      ∙ sym (opens limit (header rows columns ++ rest) rows columns
+      (sides-told limit (header rows columns ++ rest)
       (omega (arith, length-append (header rows columns) rest, length-header rows columns)) rows columns
       (rows_written rows columns s.rows_high s.columns_high rest)
-      (columns-written rows columns s.rows_high s.columns_high rest) fit h k true
-      (sym (contents-written rows columns s.rows_high s.columns_high rest (ap length (sym whole_is) ∙ to_end))) refl)
+      (columns-written rows columns s.rows_high s.columns_high rest) fit (omega arith))
+      (contents-written rows columns s.rows_high s.columns_high rest (ap length (sym whole_is) ∙ to_end)))
 
   to-header : length (header rows columns) ≡ (lines_part rows columns).offset
   unfolding lines_part header_bytes

@@ -1,67 +1,48 @@
 -- How many bytes a reader needs, and that a file that is longer is refused, whether it was read whole or only as far.
 use mathlib.Core.Path.{◌≡◌, refl, sym, ap, ◌∙◌}
 use mathlib.Core.Bool.{Bool, true, false, cond, ◌&&◌}
-use mathlib.Core.Logic.{◌⊎◌, inl, inr}
 use mathlib.Core.List.{List}
 use Prim.Native.Nat.{ℕ, suc, ◌+◌, ◌≤◌, ◌<◌}
 use native.Mathlib.Nat.{mul-le-mul}
 use native.Mathlib.Decide.{dec_le}
 use native.Mathlib.Omega.{arith}
-use borrow.Author.Tests.{eq-eqb, ne_eqb, le-leb, leb-true, eqb-true}
+use borrow.Author.Tests.{eq-eqb, ne_eqb, le-leb, eqb-true}
 use lib.Dec.{eqb, leb}
 use lib.ListN.{length, take, drop, take-append-drop}
 use lib.Seq.{take_all, take-take, length-take-le}
 use Rattle.linecode.specs.Places.{line_bytes}
 use Rattle.rectangle.specs.Refusals.{sides_fit}
 use Rattle.rectangle.proofs.Groups.{sides}
-use Rattle.rectangle.proofs.Runs.{zero_or_not}
 use Rattle.rectangle.proofs.Tests.{passed}
 use Rattle.storefile.specs.Bytes.{number_of, number_at}
 use Rattle.storefile.specs.Header.{header_bytes, lines_part, row_table_part, column_table_part, file_length}
-use Rattle.storefile.specs.Opening.{rows_in, columns_in, sides_within, entry_is, entries_fit, contents_fit, open_refusal, opened, bytes_needed}
+use Rattle.storefile.specs.Opening.{rows_in, columns_in, sides_within, entry_is, entries_fit, contents_fit, open_refusal, opened, bytes_needed, Opened}
 use Rattle.storefile.specs.Promises.{ReaderNeedsNoMore}
 use Rattle.storefile.specs.declared.header.Part.{Part}
-use Rattle.storefile.specs.declared.opening.Opened.{Opened}
-use Rattle.storefile.proofs.Openings.{sides-within, opened-accepted, opened-refused}
+use Rattle.storefile.specs.Given.{Told}
+use Rattle.storefile.proofs.Openings.{sides-within, contents-refusal, opened-refused}
 use Rattle.storefile.proofs.MadeFile.{number-in-front}
 
 -- ---- the function, case by case
-module _ (limit : ℕ) (start : List ℕ) (o : Opened) (is : o ≡ opened limit start) where
-  answer-is : o.answer ≡ open_refusal limit start
-  answer-is = ap (λ (x : Opened). x.answer) is ∙ go (zero_or_not (open_refusal limit start))
-    where
-      go : (open_refusal limit start ≡ 0) ⊎ (open_refusal limit start ≡ 0 → ⊥) → (opened limit start).answer ≡ open_refusal limit start
-      go (inl e) = ap (λ (x : Opened). x.answer) (opened-accepted limit start e) ∙ sym e
-      go (inr d) = ap (λ (x : Opened). x.answer) (opened-refused limit start d)
-
-  pub needed-settled : (o.answer ≡ 4 → ⊥) → 28 ≡ bytes_needed limit start
+module _ (limit : ℕ) (start : List ℕ) where
+  pub needed-settled : (n : ℕ) → n ≡ open_refusal limit start → (n ≡ 4 → ⊥) → 28 ≡ bytes_needed limit start
   unfolding bytes_needed header_bytes
-  needed-settled d = rw (ne_eqb (open_refusal limit start) 4 (λ z. d (answer-is ∙ z)))
+  needed-settled n e d = rw (← e, ne_eqb n 4 d)
 
-  module _ (four : o.answer ≡ 4) where
-    -- the file's start is long enough, and its sides fit
-    pub start_fits : (28 ≤ length start) × (sides_fit (rows_in start) (columns_in start) ≡ true)
-    unfolding open_refusal header_bytes
-    start_fits =
-        let one = passed (leb 28 (length start)) 1 _ (λ z. omega arith) (sym answer-is ∙ four) in
-        let two = passed (sides_fit (rows_in start) (columns_in start)) 2 _ (λ z. omega arith) one.1 in
-        (leb-true 28 (length start) one.0, two.0)
+  module _ (rows columns : ℕ) (t : Told limit start rows columns) where
+    pub needed-elsewhere : entries_fit start rows columns ≡ false → 28 ≡ bytes_needed limit start
+    unfolding bytes_needed header_bytes contents_fit
+    needed-elsewhere e = rw (contents-refusal limit start rows columns t, ← t.rows_told, ← t.columns_told, e)
 
-    module _ (rows columns : ℕ) (er : rows ≡ number_at start 0 2) (ec : columns ≡ number_at start 2 2) where
-      pub start_small : (rows ≤ 512) × (columns ≤ 512)
-      unfolding rows_in columns_in
-      start_small =
-          let range = sides (number_at start 0 2) (number_at start 2 2) start_fits.1 in
-          (omega (arith, er, range.rows_high), omega (arith, ec, range.columns_high))
+    module _ (e : entries_fit start rows columns ≡ true) where
+      pub needed-there : length start ≡ file_length rows columns → 28 ≡ bytes_needed limit start
+      unfolding bytes_needed header_bytes contents_fit
+      needed-there f = rw (contents-refusal limit start rows columns t, ← t.rows_told, ← t.columns_told, e, eq-eqb (length start) _ f)
 
-      module _ (fit : Bool) (ef : fit ≡ entries_fit start rows columns) where
-        pub needed-elsewhere : fit ≡ false → 28 ≡ bytes_needed limit start
-        unfolding bytes_needed header_bytes rows_in columns_in
-        needed-elsewhere e = rw (← answer-is, eq-eqb o.answer 4 four, ← er, ← ec, ← ef, e)
-
-        pub needed-whole : fit ≡ true → (p : Part) → p ≡ column_table_part rows columns → p.offset + p.size + 1 ≡ bytes_needed limit start
-        unfolding bytes_needed file_length rows_in columns_in
-        needed-whole e p ep = rw (← answer-is, eq-eqb o.answer 4 four, ← er, ← ec, ← ef, e, ← ep) (omega arith)
+      pub needed-whole : (length start ≡ file_length rows columns → ⊥) → file_length rows columns + 1 ≡ bytes_needed limit start
+      unfolding bytes_needed contents_fit
+      needed-whole d =
+          rw (contents-refusal limit start rows columns t, ← t.rows_told, ← t.columns_told, e, ne_eqb (length start) _ d) (omega arith)
 
 -- ---- what a file's first 28 bytes tell
 module _ (limit : ℕ) (start l : List ℕ) (long : 28 ≤ length l) (same : take 28 l ≡ start) where

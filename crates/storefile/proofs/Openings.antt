@@ -1,92 +1,76 @@
 -- Opening a file, test by test.
-use mathlib.Core.Path.{◌≡◌, sym, ap, ◌∙◌}
-use mathlib.Core.Bool.{Bool, true, false, and-eq-true_iff}
+use mathlib.Core.Path.{◌≡◌, refl, ap, ◌∙◌}
+use mathlib.Core.Bool.{Bool, true, false, ◌&&◌, and-eq-true_iff}
 use mathlib.Core.Logic.{◌⊎◌, inl, inr}
-use mathlib.Core.List.{List, []}
-use Prim.Native.Nat.{ℕ, ◌+◌, ◌-◌, ◌≤◌, ◌<◌}
+use mathlib.Core.List.{List}
+use Prim.Native.Nat.{ℕ, ◌-◌, ◌≤◌, ◌<◌, min, max}
 use native.Mathlib.Omega.{arith}
-use borrow.Author.Tests.{eq-eqb, ne_eqb, le-leb, lt-leb, leb-true}
-use lib.Dec.{eqb, leb}
-use lib.ListN.{length, take, drop, length-drop, drop_of_length-le}
-use lib.Seq.{take_all, take-nil, length-take-le}
-use Rattle.rectangle.specs.Refusals.{sides_fit}
+use borrow.Author.Tests.{ne_eqb, le-leb, lt-leb, leb-true}
+use lib.Dec.{leb}
+use lib.ListN.{length, take, drop, length-drop}
+use lib.Seq.{take_all}
+use Rattle.std.proofs.lemmas.List.{drop_min, take_min}
+use Rattle.rectangle.specs.Answers.{number_of}
+use Rattle.rectangle.specs.Refusals.{unless, sides_fit}
+use Rattle.rectangle.specs.declared.answers.Refusal.{Refusal}
+use Rattle.rectangle.proofs.Numbers.{number-not-zero}
 use Rattle.rectangle.proofs.Tests.{passed}
 use Rattle.rectangle.proofs.Runs.{zero_or_not}
 use Rattle.storefile.specs.Bytes.{number_at}
-use Rattle.storefile.specs.Header.{header_bytes, lines_part, row_table_part, column_table_part, file_length, bytes_in}
-use Rattle.storefile.specs.Opening.{rows_in, columns_in, sides_within, entry_is, entries_fit, contents_fit, open_refusal, opened}
+use Rattle.storefile.specs.Given.{Told}
+use Rattle.storefile.specs.Header.{header_bytes, bytes_in}
+use Rattle.storefile.specs.Opening.{rows_in, columns_in, sides_within, contents_fit, open_refusal, opened, Opened}
 use Rattle.storefile.specs.declared.header.Part.{Part}
-use Rattle.storefile.specs.declared.opening.Opened.{Opened}
 use Rattle.rectangle.proofs.Groups.{sides}
-
--- ---- an entry of the contents table
-module _ (file : List ℕ) (at : ℕ) (p : Part) (x : ℕ) (is : x ≡ number_at file at 4) where
-  pub entry-elsewhere : (x ≡ p.offset → ⊥) → false ≡ entry_is file at p
-  unfolding entry_is
-  entry-elsewhere d = rw (← is, ne_eqb x p.offset d)
-
-  pub entry-there : x ≡ p.offset → (y : ℕ) → y ≡ number_at file (at + 4) 4 → eqb y p.size ≡ entry_is file at p
-  unfolding entry_is
-  entry-there e y f = rw (← is, ← f, eq-eqb x p.offset e)
-
--- ---- the contents table
-module _ (file : List ℕ) (rows columns : ℕ) where
-  module _ (p : Part) (ep : p ≡ lines_part rows columns) (a : Bool) (ea : a ≡ entry_is file 4 p) where
-    pub lines-elsewhere : a ≡ false → false ≡ entries_fit file rows columns
-    unfolding entries_fit
-    lines-elsewhere e = rw (← ep, ← ea, e)
-
-    module _ (at : a ≡ true) (q : Part) (eq : q ≡ row_table_part rows columns) (b : Bool) (eb : b ≡ entry_is file 12 q) where
-      pub rows-elsewhere : b ≡ false → false ≡ entries_fit file rows columns
-      unfolding entries_fit
-      rows-elsewhere e = rw (← ep, ← ea, at, ← eq, ← eb, e)
-
-      pub columns-last : b ≡ true → (r : Part) → r ≡ column_table_part rows columns → (d : Bool) → d ≡ entry_is file 20 r
-          → d ≡ entries_fit file rows columns
-      unfolding entries_fit
-      columns-last bt r er d ed = rw (← ep, ← ea, at, ← eq, ← eb, bt, ← er) ed
-
-  module _ (fit : Bool) (ef : fit ≡ entries_fit file rows columns) where
-    pub entries-elsewhere : fit ≡ false → false ≡ contents_fit file rows columns
-    unfolding contents_fit
-    entries-elsewhere e = rw (← ef, e)
-
-    pub contents-there : fit ≡ true → (r : Part) → r ≡ column_table_part rows columns
-        → eqb (length file) (r.offset + r.size) ≡ contents_fit file rows columns
-    unfolding contents_fit file_length
-    contents-there e r er = rw (← ef, e, ← er)
 
 -- ---- the tests of opening, in their order
 module _ (limit : ℕ) (file : List ℕ) where
-  pub too_short : length file < 28 → record { answer = 1; rows = 0; columns = 0 } ≡ opened limit file
-  unfolding opened open_refusal header_bytes
-  too_short h = rw (lt-leb 28 (length file) h)
+  pub short_told : length file < 28 → 1 ≡ open_refusal limit file
+  unfolding open_refusal header_bytes
+  short_told h = rw (lt-leb 28 (length file) h)
 
   module _ (long : 28 ≤ length file) (rows columns : ℕ) (er : rows ≡ number_at file 0 2) (ec : columns ≡ number_at file 2 2) where
-    pub sides-refused : sides_fit rows columns ≡ false → record { answer = 2; rows = 0; columns = 0 } ≡ opened limit file
-    unfolding opened open_refusal header_bytes rows_in columns_in
+    pub sides-refused : sides_fit rows columns ≡ false → 2 ≡ open_refusal limit file
+    unfolding open_refusal header_bytes rows_in columns_in
     sides-refused e = rw (le-leb 28 (length file) long, ← er, ← ec, e)
 
-    module _ (sides : sides_fit rows columns ≡ true) where
-      pub rows-exceed : limit < rows → record { answer = 3; rows = 0; columns = 0 } ≡ opened limit file
-      unfolding opened open_refusal header_bytes rows_in columns_in sides_within
-      rows-exceed h = rw (le-leb 28 (length file) long, ← er, ← ec, sides, lt-leb rows limit h)
+    module _ (fit : sides_fit rows columns ≡ true) where
+      pub limit-refused : limit < max rows columns → 3 ≡ open_refusal limit file
+      unfolding open_refusal header_bytes rows_in columns_in sides_within
+      limit-refused h = rw (le-leb 28 (length file) long, ← er, ← ec, fit) (go (leb rows limit) refl)
+        where
+          go : (b : Bool) → leb rows limit ≡ b → 3 ≡ unless (b && leb columns limit) 3 (unless (contents_fit file rows columns) 4 0)
+          go true e = let k = leb-true rows limit e in rw (lt-leb columns limit (omega arith))
+          go false e = refl
 
-      pub columns-exceed : rows ≤ limit → limit < columns → record { answer = 3; rows = 0; columns = 0 } ≡ opened limit file
-      unfolding opened open_refusal header_bytes rows_in columns_in sides_within
-      columns-exceed h k =
-          rw (le-leb 28 (length file) long, ← er, ← ec, sides, le-leb rows limit h, lt-leb columns limit k)
+      pub sides-told : max rows columns ≤ limit → Told limit file rows columns
+      unfolding rows_in columns_in sides_within
+      sides-told h =
+          record {
+            long = long;
+            rows_told = er;
+            columns_told = ec;
+            sides = fit;
+            within = rw (le-leb rows limit (omega arith), le-leb columns limit (omega arith));
+          }
 
-      module _ (h : rows ≤ limit) (k : columns ≤ limit) (fit : Bool) (ef : fit ≡ contents_fit file rows columns) where
-        pub contents-refused : fit ≡ false → record { answer = 4; rows = 0; columns = 0 } ≡ opened limit file
-        unfolding opened open_refusal header_bytes rows_in columns_in sides_within
-        contents-refused e =
-            rw (le-leb 28 (length file) long, ← er, ← ec, sides, le-leb rows limit h, le-leb columns limit k, ← ef, e)
+  module _ (rows columns : ℕ) (t : Told limit file rows columns) where
+    pub contents-refusal : open_refusal limit file ≡ unless (contents_fit file rows columns) 4 0
+    unfolding open_refusal header_bytes
+    contents-refusal = rw (le-leb 28 (length file) t.long, ← t.rows_told, ← t.columns_told, t.sides, t.within)
 
-        pub opens : fit ≡ true → record { answer = 0; rows = rows; columns = columns } ≡ opened limit file
-        unfolding opened open_refusal header_bytes rows_in columns_in sides_within
-        opens e =
-            rw (le-leb 28 (length file) long, ← er, ← ec, sides, le-leb rows limit h, le-leb columns limit k, ← ef, e)
+    pub contents-refused : contents_fit file rows columns ≡ false → record { answer = 4; rows = 0; columns = 0 } ≡ opened limit file
+    unfolding opened
+    contents-refused e = rw (contents-refusal, e)
+
+    pub opens : contents_fit file rows columns ≡ true → record { answer = 0; rows = rows; columns = columns } ≡ opened limit file
+    unfolding opened
+    opens e = rw (contents-refusal, e, ← t.rows_told, ← t.columns_told)
+
+  pub told-refused : (refusal : Refusal) → number_of refusal ≡ open_refusal limit file
+      → record { answer = number_of refusal; rows = 0; columns = 0 } ≡ opened limit file
+  unfolding opened
+  told-refused refusal e = rw (← e, ne_eqb (number_of refusal) 0 (number-not-zero refusal))
 
 -- ---- what an opened file tells
 pub sides-within : (limit rows columns : ℕ) → sides_within limit rows columns ≡ true → (rows ≤ limit) × (columns ≤ limit)
@@ -149,28 +133,15 @@ opened-small limit file o is = go (outcome limit file o is)
         let range = sides (rows_in file) (columns_in file) h.sides in
         (omega (arith, range.rows_high), omega (arith, range.columns_high))
 
--- ---- a part of a file
+-- ---- a part of a file, as far as the file reaches
 module _ (file : List ℕ) (p : Part) where
-  abbrev pub rest : List ℕ
-  rest = take (length file - p.offset) (drop p.offset file)
-
-  rest-is : rest ≡ drop p.offset file
-  rest-is = take_all (length file - p.offset) (drop p.offset file) (omega (arith, length-drop p.offset file))
-
-  pub part-past : length file < p.offset → [] ≡ bytes_in file p
+  pub part-reached : (m n : ℕ) → m ≡ min p.offset (length file)
+      → n ≡ min p.size (length (take (length file - m) (drop m file)))
+      → take n (take (length file - m) (drop m file)) ≡ bytes_in file p
   unfolding bytes_in
-  part-past h =
-      sym (ap (take p.size) (drop_of_length-le file {i = p.offset} (omega arith)) ∙ take-nil p.size)
-
-  pub part_cut : length file - p.offset < p.size → rest ≡ bytes_in file p
-  unfolding bytes_in
-  part_cut h =
-      rest-is ∙ sym (take_all p.size (drop p.offset file) (omega (arith, length-drop p.offset file)))
-
-  pub part_length : p.offset ≤ length file → p.size ≤ length file - p.offset → p.size ≡ length (take p.size rest)
-  part_length h k =
-      sym (length-take-le p.size rest (omega (arith, ap length rest-is, length-drop p.offset file)))
-
-  pub part-whole : take p.size rest ≡ bytes_in file p
-  unfolding bytes_in
-  part-whole = ap (take p.size) rest-is
+  part-reached m n em en =
+      let rest = take (length file - m) (drop m file) in
+      let whole : rest ≡ drop p.offset file =
+      take_all (length file - m) (drop m file) (omega (arith, length-drop m file))
+      ∙ ap (λ (k : ℕ). drop k file) em ∙ drop_min p.offset file in
+      ap (λ (k : ℕ). take k rest) en ∙ take_min p.size rest ∙ ap (take p.size) whole

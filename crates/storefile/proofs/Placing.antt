@@ -1,12 +1,12 @@
--- Bytes put into a buffer: two stores, a loop of stores, and one run of bytes after the other.
+-- Bytes put into a buffer: a part, and one run of bytes after the other.
 use mathlib.Core.Path.{◌≡◌, sym, ap, ap₂, ◌∙◌}
-use mathlib.Core.List.{List, [], ◌∷◌, ◌++◌, append_assoc, append-nil}
-use Prim.Native.Nat.{ℕ, ◌+◌, ◌≤◌, ◌<◌}
+use mathlib.Core.List.{List, ◌++◌, append_assoc, append-nil}
+use Prim.Native.Nat.{ℕ, ◌+◌, ◌≤◌}
 use native.Mathlib.Nat.{zero-add}
-use native.Mathlib.Numerals.{add-one}
 use native.Mathlib.Omega.{arith}
-use lib.ListN.{length, take, drop, get_or, set, length-append, drop_of_length-le}
-use lib.Seq.{length-take-le, take_at, take-length, drop-append-add, drop-drop, sets-eq, paste, paste-zero, paste-suc, length-paste}
+use lib.ListN.{length, take, drop, length-append, drop_of_length-le}
+use lib.Seq.{length-take-le, take_at, drop-append-add, drop-drop}
+use borrow.Rule.Slice.PartMut.{put_mid}
 use Rattle.storefile.specs.Bytes.{placed, Put}
 
 module _ (old : List ℕ) (at : ℕ) where
@@ -38,14 +38,12 @@ module _ (old : List ℕ) (at : ℕ) where
   placed-then w buffer k bytes next here room e f =
       f ∙ ap₂ (λ (l : List ℕ) (j : ℕ). placed l j bytes) e here ∙ placed-next w bytes (omega arith)
 
-  -- one store, and two
-  pub placed_one : (x : ℕ) → at < length old → set old at x ≡ placed old at (x ∷ [])
+  -- a part written
+  pub placed-part : (bytes : List ℕ) (k : ℕ) → k ≡ length bytes → put_mid at k old bytes ≡ placed old at bytes
   unfolding placed
-  placed_one x h = sets-eq (x ∷ []) old at (omega arith)
-
-  pub placed-two : (x y : ℕ) → at + 2 ≤ length old → set (set old at x) (at + 1) y ≡ placed old at (x ∷ y ∷ [])
-  unfolding placed
-  placed-two x y h = ap (λ (k : ℕ). set (set old at x) k y) (add-one at) ∙ sets-eq (x ∷ y ∷ []) old at h
+  placed-part bytes k e =
+      ap (λ (l : List ℕ). take at old ++ (bytes ++ l)) (drop-drop k at old ∙ ap (λ (j : ℕ). drop (at + j) old) e)
+      ∙ sym (append_assoc (take at old) bytes (drop (at + length bytes) old))
 
 -- some bytes put from the start on, and as many as the buffer has
 pub placed-start : (old a : List ℕ) → placed old 0 a ≡ a ++ drop (length a) old
@@ -64,38 +62,3 @@ put_then old at a mid k b new next room p q =
       after = omega (arith, p.after, q.after, length-append a b);
       put = placed-then old at a mid k b new p.after room p.put q.put;
     }
-
--- the loop that puts bytes: i of them stand in the buffer
-pub record Putting (old : List ℕ) (at : ℕ) (bytes buffer : List ℕ) (i : ℕ) : Type 0 where
-  pub few : i ≤ length bytes
-  pub room : at + length bytes ≤ length old
-  pub put : buffer ≡ paste old at bytes i
-
-pub putting-start : (old : List ℕ) (at : ℕ) (bytes : List ℕ) → at + length bytes ≤ length old → Putting old at bytes old 0
-putting-start old at bytes h = record { few = omega arith; room = h; put = paste-zero old at bytes }
-
-module _ (old : List ℕ) (at : ℕ) (bytes buffer : List ℕ) (i : ℕ) (p : Putting old at bytes buffer i) where
-  pub putting-length : length buffer ≡ length old
-  putting-length = ap length p.put ∙ length-paste old at bytes i (omega (arith, p.few, p.room)) p.few
-
-  pub putting-next : i < length bytes → Putting old at bytes (set buffer (at + i) (get_or bytes i 0)) (i + 1)
-  putting-next h =
-      record {
-        few = omega arith;
-        room = p.room;
-        put =
-            ap (λ (b : List ℕ). set b (at + i) (get_or bytes i 0)) p.put
-            ∙ paste-suc old at bytes i 0 (omega (arith, p.room)) h
-            ∙ ap (paste old at bytes) (sym (add-one i));
-      }
-
-  pub putting-end : length bytes ≤ i → Put old at bytes buffer (at + i)
-  unfolding placed
-  putting-end h =
-      let e : i ≡ length bytes = omega (arith, p.few) in
-      record {
-        after = ap (λ (k : ℕ). at + k) e;
-        put =
-            p.put ∙ ap (paste old at bytes) e
-            ∙ ap (λ (l : List ℕ). take at old ++ l ++ drop (at + length bytes) old) (take-length bytes);
-      }

@@ -3,7 +3,6 @@ use Rattle.std.specs.Prelude.{cond, List, [], ◌∷◌, ◌++◌, ℕ, ◌+◌,
 use Rattle.storefile.specs.Header.{lines_part, row_table_part, column_table_part}
 use Rattle.storefile.specs.Opening.{opened}
 use Rattle.storefile.specs.declared.header.Part.{Part}
-use Rattle.storefile.specs.declared.layout.Layout.{Layout}
 
 -- a part as two numbers: its offset from the file's start, and its length
 abbrev pub part_numbers : Part → List ℕ
@@ -21,6 +20,11 @@ layout_numbers rows columns =
     ∷ part_numbers (lines_part rows columns)
     ++ part_numbers (row_table_part rows columns)
     ++ part_numbers (column_table_part rows columns)
+
+-- what opening a file answers, and where its bodies stand
+pub record Layout : Type 0 where
+  pub answer : ℕ
+  pub numbers : List ℕ
 
 -- the entry point: these numbers of a file that opens, zeros on refusal
 unfoldable pub layout_in : List ℕ → Layout

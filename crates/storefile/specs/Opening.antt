@@ -4,7 +4,6 @@ use Rattle.rectangle.specs.Refusals.{unless, sides_fit}
 use Rattle.storefile.specs.Bytes.{number_at}
 use Rattle.storefile.specs.Header.{header_bytes, lines_part, row_table_part, column_table_part, file_length, bytes_in}
 use Rattle.storefile.specs.declared.header.Part.{Part}
-use Rattle.storefile.specs.declared.opening.Opened.{Opened}
 
 -- two bytes rows, two bytes columns
 unfoldable pub rows_in : List ℕ → ℕ
@@ -39,6 +38,12 @@ open_refusal limit file =
     (unless (sides_fit (rows_in file) (columns_in file)) 2
     (unless (sides_within limit (rows_in file) (columns_in file)) 3
     (unless (contents_fit file (rows_in file) (columns_in file)) 4 0)))
+
+-- what opening a file answers, and its rows and columns
+pub record Opened : Type 0 where
+  pub answer : ℕ
+  pub rows : ℕ
+  pub columns : ℕ
 
 -- the entry point that opens a file: its rows and columns, 0 on refusal
 unfoldable pub opened : ℕ → List ℕ → Opened

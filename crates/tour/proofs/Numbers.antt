@@ -13,13 +13,11 @@ use Rattle.scheme.specs.Demand3.{◌∈◌}
 use Rattle.rectangle.proofs.Tests.{not-among, either_way}
 use Rattle.results.specs.Marks.{count_of, counts_of}
 use Rattle.tour.specs.Wear.{Result, answers_of, wear_of}
-use Rattle.tour.specs.Adding.{is_report, add_store}
-use Rattle.tour.specs.Share.{compare_shares}
+use Rattle.tour.specs.Adding.{is_report, Added, add_store}
+use Rattle.tour.specs.Share.{Compared, compare_shares}
 use Rattle.tour.specs.Numbers.{report_numbers, numbers_of, wear_in, NumbersAdded, add_numbers, compare_numbers}
 use Rattle.tour.specs.Promises.{TenNumbers, NumbersRefused}
 use Rattle.tour.specs.declared.Wear as Declared
-use Rattle.tour.specs.declared.Added.{Added}
-use Rattle.tour.specs.declared.Compared.{Compared}
 use Rattle.tour.proofs.Refused.{takes, refused}
 
 -- ---- nothing is lost either way

@@ -13,12 +13,10 @@ use Rattle.rectangle.specs.Repair.{hands_over}
 use Rattle.rectangle.proofs.Tests.{every-at}
 use Rattle.results.proofs.Adding.{all-marks}
 use Rattle.tour.specs.Wear.{Result, wear_of}
-use Rattle.tour.specs.Adding.{most_stores, most_lines, is_report, is_result, has_room, plus, add_store}
-use Rattle.tour.specs.Share.{share_order, compare_shares}
+use Rattle.tour.specs.Adding.{most_stores, most_lines, is_report, is_result, has_room, plus, Added, add_store}
+use Rattle.tour.specs.Share.{share_order, Compared, compare_shares}
 use Rattle.tour.specs.Promises.{IsReport, IsResult, Refused}
 use Rattle.tour.specs.declared.Wear as Declared
-use Rattle.tour.specs.declared.Added.{Added}
-use Rattle.tour.specs.declared.Compared.{Compared}
 
 -- ---- the test of a report
 pub is-report : (w : Declared.Wear) → is_report w ≡ true → IsReport w

@@ -6,7 +6,6 @@ use Rattle.results.specs.Marks.{total, plus_counts}
 use Rattle.tour.specs.Wear.{Result, wear_of}
 use Rattle.tour.specs.declared.Answers.{Answers}
 use Rattle.tour.specs.declared.Wear as Declared
-use Rattle.tour.specs.declared.Added.{Added}
 
 -- the most stores of a report
 unfoldable pub most_stores : ℕ
@@ -53,6 +52,11 @@ plus a b =
       marks = plus_counts a.marks b.marks;
       answers = plus_answers a.answers b.answers;
     }
+
+-- what an addition answers, and the report after it
+pub record Added : Type 0 where
+  pub answer : ℕ
+  pub wear : Declared.Wear
 
 -- the entry point: one result more, or 15 and "A refused addition leaves the report unchanged."
 unfoldable pub add_store : Declared.Wear → Result → Added

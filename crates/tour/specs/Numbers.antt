@@ -2,9 +2,8 @@
 use Rattle.std.specs.Prelude.{cond, ◌&&◌, List, [], ◌∷◌, ℕ, eqb, length, get_or}
 use Rattle.tour.specs.Wear.{Result}
 use Rattle.tour.specs.Adding.{add_store}
-use Rattle.tour.specs.Share.{compare_shares}
+use Rattle.tour.specs.Share.{Compared, compare_shares}
 use Rattle.tour.specs.declared.Wear as Declared
-use Rattle.tour.specs.declared.Compared.{Compared}
 
 -- how many numbers a report has
 unfoldable pub report_numbers : ℕ

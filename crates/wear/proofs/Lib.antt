@@ -1,5 +1,4 @@
 -- Laws of the functions on wear reports.
-pub mod Sums
 pub mod Products
 pub mod OneMore
 pub mod Ten

@@ -1,41 +1,24 @@
--- Products of 84 bits in two parts, and their order.
-use mathlib.Core.Path.{◌≡◌, sym, ap, ◌∙◌}
-use mathlib.Core.Bool.{Bool, true, false, cond}
-use Prim.Native.Nat.{ℕ, ◌+◌, ◌*◌, ◌/◌, ◌%◌, ◌≤◌, ◌<◌}
-use native.Mathlib.Nat.{mul-add, mul_left_comm, mul-le-mul}
+-- The product of two numbers of 64 bits has no more than 128, and the order of two numbers.
+use mathlib.Core.Path.{◌≡◌, sym}
+use Prim.Native.Nat.{ℕ, ◌*◌, ◌≤◌, ◌<◌, ◌^◌}
+use native.Mathlib.Nat.{mul-le-mul}
 use native.Mathlib.Omega.{arith}
-use lib.Dec.{eqb}
-use Rattle.tour.specs.Adding.{is_report}
-use Rattle.tour.specs.Share.{out_of}
-use Rattle.tour.specs.declared.Wear as Declared
-use Rattle.tour.proofs.Refused.{is-report}
+use Rattle.std.specs.Ordering.{nat_cmp}
+use Rattle.std.proofs.lemmas.Cmp.{ranked}
+use Rattle.std.specs.declared.cmp.Ordering.{Ordering}
+use Rattle.std.specs.declared.cmp.Ordering.TheVariants.{Less, Equal, Greater}
+use Rattle.tour.specs.Share.{order_number, order_of}
+use Rattle.tour.proofs.Shares.{order_same, order-less, order-more}
 
--- the second number in halves of 21 bits
-pub in_halves : (x y : ℕ) → (x * (y / 2097152) + x * (y % 2097152) / 2097152) * 2097152 + x * (y % 2097152) % 2097152 ≡ x * y
-in_halves x y =
-    let split : 2097152 * (y / 2097152) + y % 2097152 ≡ y = omega arith in
-    let spread : x * y ≡ 2097152 * (x * (y / 2097152)) + x * (y % 2097152) =
-    ap (λ (n : ℕ). x * n) (sym split)
-    ∙ mul-add x (2097152 * (y / 2097152)) (y % 2097152)
-    ∙ ap (λ (n : ℕ). n + x * (y % 2097152)) (mul_left_comm x 2097152 (y / 2097152)) in
-    omega (arith, spread)
+pub product_fits : (x y : ℕ) → x < 2 ^ 64 → y < 2 ^ 64 → x * y < 2 ^ 128
+product_fits x y h k =
+    let a : x ≤ 18446744073709551615 = omega arith in
+    let b : y ≤ 18446744073709551615 = omega arith in
+    let most : x * y ≤ 18446744073709551615 * 18446744073709551615 = mul-le-mul a b in
+    omega arith
 
--- a number of 42 bits times one of 21
-pub half-fits : (x h : ℕ) → x < 4398046511104 → h < 2097152 → x * h ≤ 9223369837831520256
-half-fits x h p q =
-    let a : x ≤ 4398046511103 = omega (arith, p) in
-    let b : h ≤ 2097151 = omega (arith, q) in
-    let most : x * h ≤ 4398046511103 * 2097151 = mul-le-mul a b in
-    omega (arith, most)
-
--- a report's numbers have 42 bits
-pub rebuilt-fits : (w : Declared.Wear) → is_report w ≡ true → w.marks.rebuilt < 4398046511104
-rebuilt-fits w e = let r = is-report w e in omega (arith, r.stores, r.lines, r.marks)
-
-pub out-of-fits : (w : Declared.Wear) → is_report w ≡ true → out_of w < 4398046511104
-unfolding out_of
-out-of-fits w e = go (eqb w.lines 0)
-  where
-    go : (t : Bool) → cond t 1 w.lines < 4398046511104
-    go true = omega arith
-    go false = let r = is-report w e in omega (arith, r.stores, r.lines)
+-- the order of two numbers, as the definition numbers it
+pub order_is : (x y : ℕ) (r : Ordering) → r ≡ nat_cmp x y → order_number r ≡ order_of x y
+order_is x y Less e = sym (order-less x y (ranked x y Less e))
+order_is x y Equal e = sym (order_same x y (ranked x y Equal e))
+order_is x y Greater e = sym (order-more x y (ranked x y Greater e))

@@ -1,94 +1,66 @@
 // One repair result taken into a report.
 ghost use Rattle.std.specs.Prelude.{◌≡◌, true, ◌&&◌, [], ◌∷◌, ◌≤◌, leb};
-ghost use Rattle.rectangle.specs.Repair.{hands_over};
-ghost use Rattle.results.specs.Marks.{count_of, total};
+ghost use Rattle.rectangle.specs.Answers.{outcome_number};
+ghost use Rattle.results.specs.Marks.{total};
 ghost use Rattle.tour.specs.Wear.{answers_of};
 ghost use Rattle.tour.specs.Adding.{most_lines, is_report, has_room, plus_answers, plus as plus·, add_store};
+ghost use Rattle.tour.specs.Given.{added_to};
 
 use crate::report;
+use rectangle::answers::{Outcome, Refusal};
 use results::marks::Counts;
 use results::{answers, marks};
-use tour::{Added, Answers, Wear};
-
-// A refused addition: the report as it was.
-fn refused(w: Wear) -> Added
-    ensures { result ≡ record { answer = 15; wear = w } }
-{
-    Added {
-        answer: 15,
-        wear: w,
-    }
-}
-
-// How often an answer stands in a list of one.
-fn counted(found: u32, answer: u32) -> u64
-    ensures { result ≡ count_of answer (found ∷ []) }
-{
-    if found == answer { 1 } else { 0 }
-}
+use tour::{Answers, Wear};
 
 // The stores for each answer, with one more.
-fn plus_answer(a: Answers, answer: u32) -> Answers
+#[tactic(auto, unfolding(tour::specs::Adding::plus_answers, tour::specs::Wear::answers_of, results::specs::Marks::count_of))]
+fn plus_answer(a: Answers, outcome: Outcome) -> Answers
     requires { (a.done ≤ 1000000) × (a.left ≤ 1000000) × (a.differs ≤ 1000000) }
-    ensures { result ≡ plus_answers a (answers_of (answer ∷ [])) }
+    ensures { result ≡ plus_answers a (answers_of (outcome_number outcome ∷ [])) }
 {
-    Answers {
-        done: a.done + counted(answer, 0),
-        left: a.left + counted(answer, 11),
-        differs: a.differs + counted(answer, 12),
+    let mut sums = a;
+    match outcome {
+        Outcome::Done => sums.done += 1,
+        Outcome::Left => sums.left += 1,
+        Outcome::Differs => sums.differs += 1,
     }
+    sums
 }
 
 // A report with one store more, of which the lines for each mark are known.
-fn plus_store(w: Wear, counts: Counts, lines: u64, answer: u32) -> Wear
+fn plus_store(w: Wear, counts: Counts, lines: u64, outcome: Outcome) -> Wear
     requires { (is_report w ≡ true) × (lines ≤ 4194304) × (total counts ≡ lines) }
-    ensures { result ≡ plus· w (record { stores = 1; lines = lines; marks = counts; answers = answers_of (answer ∷ []) }) }
+    ensures { result ≡ plus· w (record { stores = 1; lines = lines; marks = counts; answers = answers_of (outcome_number outcome ∷ []) }) }
 {
-    let seen = w.marks;
-    let answers = w.answers;
     Wear {
         stores: w.stores + 1,
         lines: w.lines + lines,
-        marks: marks::plus(seen, counts),
-        answers: plus_answer(answers, answer),
+        marks: w.marks + counts,
+        answers: plus_answer(w.answers, outcome),
     }
 }
 
-// Whether a report takes in a store of so many lines with an answer, whatever its marks are.
+// Whether a report takes in a store of so many lines, whatever its marks and its answer are.
 #[tactic(auto, unfolding(tour::specs::Adding::has_room, tour::specs::Adding::most_stores, tour::specs::Adding::most_lines))]
-fn takes(w: Wear, lines: u64, answer: u32) -> bool
-    ensures { result ≡ is_report w && (has_room w && (leb 4 lines && (leb lines most_lines && hands_over answer))) }
+fn takes(w: Wear, lines: u64) -> bool
+    ensures { result ≡ is_report w && (has_room w && (leb 4 lines && leb lines most_lines)) }
 {
-    if !report::is_report(w) {
-        return false;
-    }
-    if 1000000 <= w.stores {
-        return false;
-    }
-    if lines < 4 {
-        return false;
-    }
-    if 4194304 < lines {
-        return false;
-    }
-    answers::hands_over(answer)
+    report::is_report(w) && w.stores < 1000000 && (4..=4194304).contains(&lines)
 }
 
-// The entry point: one repair result more, or 15 and the report as it was. Marks that are none of 0 to 4 are in no count: where there are
-// any, the counts don't add up to the lines.
-pub fn add(w: Wear, marks: &[u8], answer: u32) -> Added
-    ensures { result ≡ add_store w (record { marks = marks.now; answer = answer }) }
+// The entry point: one repair result more, or 15. A caller in another language hands the answer over as its number. Marks that are none
+// of 0 to 4 are in no count: where there are any, the counts don't add up to the lines.
+pub fn add(w: Wear, marks: &[u8], answer: u32) -> Result<Wear, Refusal>
+    ensures { added_to w result ≡ add_store w (record { marks = marks.now; answer = answer }) }
 {
+    let outcome = answers::hands_over(answer).ok_or(Refusal::NoReport)?;
     let lines = marks.len() as u64;
-    if !takes(w, lines, answer) {
-        return refused(w);
+    if !takes(w, lines) {
+        return Err(Refusal::NoReport);
     }
     let counts = marks::count_all(marks);
     if !report::marks_add_up(counts, lines) {
-        return refused(w);
+        return Err(Refusal::NoReport);
     }
-    Added {
-        answer: 0,
-        wear: plus_store(w, counts, lines, answer),
-    }
+    Ok(plus_store(w, counts, lines, outcome))
 }

@@ -1,81 +1,90 @@
 // Reports as ten numbers in a slice, as other languages hand them over.
-ghost use Rattle.std.specs.Prelude.{◌≡◌, length};
+ghost use Rattle.std.specs.Prelude.{◌≡◌, ◌≢◌, length, MatchResult};
+ghost use Rattle.rectangle.specs.Answers.{answer_of};
 ghost use Rattle.tour.specs.Numbers.{numbers_of, wear_in, NumbersAdded, add_numbers, compare_numbers};
+ghost use Rattle.tour.specs.Given.{compared_as};
 
 use crate::{adding, share};
+use rectangle::answers::Refusal;
 use results::marks::Counts;
-use tour::{Answers, Compared, Wear};
+use std::cmp::Ordering;
+use tour::{Answers, Wear};
 
-// The report that ten numbers are.
-fn read(numbers: &[u64]) -> Wear
-    requires { length numbers.now ≡ 10 }
-    ensures { result ≡ wear_in numbers.now }
+// The report that ten numbers are; another length is 7. No `TryFrom`, and no `From` below: `Wear` belongs to `tour`, which has no code.
+#[tactic(auto, unfolding(tour::specs::Numbers::wear_in))]
+fn read(numbers: &[u64]) -> Result<Wear, Refusal>
+    ensures { MatchResult result
+        (λ wear. (length numbers.now ≡ 10) × (wear ≡ wear_in numbers.now))
+        (λ refusal. (length numbers.now ≢ 10) × (refusal ≡ Refusal.Room)) }
 {
-    Wear {
-        stores: numbers[0],
-        lines: numbers[1],
+    let &[
+        stores,
+        lines,
+        clean,
+        alone,
+        trial,
+        rebuilt,
+        faulty,
+        done,
+        left,
+        differs,
+    ] = numbers
+    else {
+        return Err(Refusal::Room);
+    };
+    Ok(Wear {
+        stores,
+        lines,
         marks: Counts {
-            clean: numbers[2],
-            alone: numbers[3],
-            trial: numbers[4],
-            rebuilt: numbers[5],
-            faulty: numbers[6],
+            clean,
+            alone,
+            trial,
+            rebuilt,
+            faulty,
         },
         answers: Answers {
-            done: numbers[7],
-            left: numbers[8],
-            differs: numbers[9],
+            done,
+            left,
+            differs,
         },
-    }
+    })
 }
 
 // A report written as ten numbers.
-fn write(w: Wear, numbers: &mut [u64])
-    requires { length numbers.old ≡ 10 }
-    ensures { numbers.new ≡ numbers_of w }
+#[tactic(auto, unfolding(tour::specs::Numbers::numbers_of))]
+fn write(w: Wear) -> [u64; 10]
+    ensures { result ≡ numbers_of w }
 {
-    let marks = w.marks;
-    let answers = w.answers;
-    numbers[0] = w.stores;
-    numbers[1] = w.lines;
-    numbers[2] = marks.clean;
-    numbers[3] = marks.alone;
-    numbers[4] = marks.trial;
-    numbers[5] = marks.rebuilt;
-    numbers[6] = marks.faulty;
-    numbers[7] = answers.done;
-    numbers[8] = answers.left;
-    numbers[9] = answers.differs;
+    [
+        w.stores,
+        w.lines,
+        w.marks.clean,
+        w.marks.alone,
+        w.marks.trial,
+        w.marks.rebuilt,
+        w.marks.faulty,
+        w.answers.done,
+        w.answers.left,
+        w.answers.differs,
+    ]
 }
 
 // The entry point that adds: 7 for another length, then 15; a refusal writes nothing.
-#[tactic(auto, using(crate::proofs::Ten::numbers_taken, crate::proofs::Ten::numbers_refused))]
-pub fn add_numbers(numbers: &mut [u64], marks: &[u8], answer: u32) -> u32
+pub fn add_numbers(numbers: &mut [u64], marks: &[u8], answer: u32) -> Result<(), Refusal>
     ensures { ◌≡◌ {A = NumbersAdded}
-        (record { answer = result; numbers = numbers.new })
+        (record { answer = answer_of result; numbers = numbers.new })
         (add_numbers numbers.old (record { marks = marks.now; answer = answer })) }
 {
-    let room = numbers.len();
-    if room != 10 {
-        return 7;
-    }
-    let added = adding::add(read(numbers), marks, answer);
-    if added.answer == 0 {
-        let wear = added.wear;
-        write(wear, numbers);
-    }
-    added.answer
+    let wear = read(numbers)?;
+    let after = adding::add(wear, marks, answer)?;
+    numbers.copy_from_slice(&write(after));
+    Ok(())
 }
 
 // The entry point that compares: 7 for another length, then 15.
-pub fn compare_numbers(a: &[u64], b: &[u64]) -> Compared
-    ensures { result ≡ compare_numbers a.now b.now }
+#[tactic(auto, unfolding(tour::specs::Numbers::compare_numbers, tour::specs::Numbers::report_numbers))]
+pub fn compare_numbers(a: &[u64], b: &[u64]) -> Result<Ordering, Refusal>
+    ensures { compared_as result ≡ compare_numbers a.now b.now }
 {
-    if a.len() != 10 {
-        return share::not_compared(7);
-    }
-    if b.len() != 10 {
-        return share::not_compared(7);
-    }
-    share::compare(read(a), read(b))
+    share::compare(read(a)?, read(b)?)
 }

@@ -1,23 +1,19 @@
 -- `storefile::header::write_header` meets its contract.
-use mathlib.Core.Path.{sym, ◌∙◌}
-use Rattle.rectangle.proofs.Groups.{sides}
+use Rattle.std.proofs.lemmas.Result.{err_from_is_err_and}
+use Rattle.storefile.proofs.Small.{sides_given, sides_refused}
 use Rattle.storefile.proofs.Headers.{header-refused-2, header-refused-7, header-given}
-use native.Mathlib.Omega.{arith}
 use Rattle.storefile.proofs.header.write_header.Goals as goal
 
-pub returns-then-not-sides_fit : goal.returns-then-not-sides_fit
-returns-then-not-sides_fit c = header-refused-2 c.args.rows c.args.columns c.args.out.now (sym c.sides_fit.ensures ∙ c.if-not-sides_fit.true)
+pub returns-in_err-sides : goal.returns-in_err-sides
+returns-in_err-sides c =
+    let p = err_from_is_err_and c.from_residual.result c.from_residual.ensures.1 in
+    let n = sides_refused c.args.rows c.args.columns _ c.in_err-sides.ensures.answer in
+    rw (p.1, p.2, n.1) (header-refused-2 c.args.rows c.args.columns c.args.out.now n.0)
 
 pub returns-then-out-ne28 : goal.returns-then-out-ne28
-returns-then-out-ne28 c = header-refused-7 c.args.rows c.args.columns c.args.out.now (sym c.sides_fit.ensures ∙ c.if-not-sides_fit.false) c.if-out-ne28.true
-
-pub put_header-requires : goal.put_header-requires
-put_header-requires c = let range = sides c.args.rows c.args.columns (sym c.sides_fit.ensures ∙ c.if-not-sides_fit.false) in
-    record {
-      long = omega arith;
-      small = (range.rows_high, range.columns_high);
-    }
+returns-then-out-ne28 c = header-refused-7 c.args.rows c.args.columns c.args.out.now (sides_given c.args.rows c.args.columns c.in_ok-sides.ensures.answer) c.if-out-ne28.true
 
 pub returns : goal.returns
 returns c =
-    header-given c.args.rows c.args.columns c.args.out.now (sym c.sides_fit.ensures ∙ c.if-not-sides_fit.false) c.if-out-ne28.false _ c.put_header.ensures
+    header-given c.args.rows c.args.columns c.args.out.now (sides_given c.args.rows c.args.columns c.in_ok-sides.ensures.answer) c.if-out-ne28.false _
+    (rw (c.in_ok-sides.ensures.given.0, c.in_ok-sides.ensures.given.1) at c.put_header.ensures)

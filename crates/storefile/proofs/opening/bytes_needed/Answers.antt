@@ -1,42 +1,31 @@
 -- `storefile::opening::bytes_needed` meets its contract.
+use mathlib.Core.Path.{sym, ap, ◌∙◌}
+use Prim.Native.Nat.{ℕ, ◌+◌}
 use native.Mathlib.Omega.{arith}
-use Rattle.storefile.proofs.Sides.{end-small}
-use Rattle.storefile.proofs.Needed.{needed-settled, start_fits, start_small, needed-elsewhere, needed-whole}
+use Rattle.storefile.proofs.Small.{file_small}
+use Rattle.storefile.proofs.Needed.{needed-settled, needed-elsewhere, needed-there, needed-whole}
 use Rattle.storefile.proofs.opening.bytes_needed.Goals as goal
-
-pub returns-then-open_within-ne4 : goal.returns-then-open_within-ne4
-returns-then-open_within-ne4 c = needed-settled c.args.limit c.args.start.now _ c.open_within.ensures c.if-open_within-ne4.true
-
-pub two_bytes-rows-requires : goal.two_bytes-rows-requires
-two_bytes-rows-requires c = let long = (start_fits c.args.limit c.args.start.now _ c.open_within.ensures c.if-open_within-ne4.false).0 in omega arith
-
-pub two_bytes-columns-requires : goal.two_bytes-columns-requires
-two_bytes-columns-requires c = let long = (start_fits c.args.limit c.args.start.now _ c.open_within.ensures c.if-open_within-ne4.false).0 in omega arith
-
-pub entries_fit-requires : goal.entries_fit-requires
-entries_fit-requires c =
-    record {
-      long = (start_fits c.args.limit c.args.start.now _ c.open_within.ensures c.if-open_within-ne4.false).0;
-      small = start_small c.args.limit c.args.start.now _ c.open_within.ensures c.if-open_within-ne4.false _ _ c.two_bytes-rows.ensures c.two_bytes-columns.ensures;
-    }
-
-pub returns-then-not-entries_fit : goal.returns-then-not-entries_fit
-returns-then-not-entries_fit c = needed-elsewhere c.args.limit c.args.start.now _ c.open_within.ensures c.if-open_within-ne4.false _ _ c.two_bytes-rows.ensures c.two_bytes-columns.ensures _ c.entries_fit.ensures c.if-not-entries_fit.true
-
-pub column_table_part-last-requires : goal.column_table_part-last-requires
-column_table_part-last-requires c = start_small c.args.limit c.args.start.now _ c.open_within.ensures c.if-open_within-ne4.false _ _ c.two_bytes-rows.ensures c.two_bytes-columns.ensures
 
 pub overflow_add-result : goal.overflow_add-result
 overflow_add-result c =
-    let small = start_small c.args.limit c.args.start.now _ c.open_within.ensures c.if-open_within-ne4.false _ _ c.two_bytes-rows.ensures c.two_bytes-columns.ensures in
-    let end = end-small _ _ small.0 small.1 _ c.column_table_part-last.ensures in
-    omega arith
+    let sides = c.in-Ok.sides in
+    let few = file_small _ _ sides.rows_fit.1 sides.columns_fit.1 in
+    omega (arith, c.file_length-in-Ok.ensures)
 
-pub overflow_add-result-2 : goal.overflow_add-result-2
-overflow_add-result-2 c =
-    let small = start_small c.args.limit c.args.start.now _ c.open_within.ensures c.if-open_within-ne4.false _ _ c.two_bytes-rows.ensures c.two_bytes-columns.ensures in
-    let end = end-small _ _ small.0 small.1 _ c.column_table_part-last.ensures in
-    omega arith
+pub returns-in-Ok : goal.returns-in-Ok
+returns-in-Ok c =
+    ap (λ (n : ℕ). n + 1) c.file_length-in-Ok.ensures
+    ∙ needed-whole c.args.limit c.args.start.now _ _ c.in-Ok.ensures (sym c.entries_fit.ensures ∙ c.if-entries_fit.true)
+    (λ e. c.if-start-file_length.true (e ∙ sym c.file_length.ensures))
 
-pub returns : goal.returns
-returns c = needed-whole c.args.limit c.args.start.now _ c.open_within.ensures c.if-open_within-ne4.false _ _ c.two_bytes-rows.ensures c.two_bytes-columns.ensures _ c.entries_fit.ensures c.if-not-entries_fit.false _ c.column_table_part-last.ensures
+pub returns-in_default : goal.returns-in_default
+returns-in_default c =
+    needed-there c.args.limit c.args.start.now _ _ c.in-Ok.ensures (sym c.entries_fit.ensures ∙ c.if-entries_fit.true)
+    (c.if-start-file_length.false ∙ c.file_length.ensures)
+
+pub returns-in_default-2 : goal.returns-in_default-2
+returns-in_default-2 c =
+    needed-elsewhere c.args.limit c.args.start.now _ _ c.in-Ok.ensures (sym c.entries_fit.ensures ∙ c.if-entries_fit.false)
+
+pub returns-in_default-3 : goal.returns-in_default-3
+returns-in_default-3 c = needed-settled c.args.limit c.args.start.now _ c.in_default.ensures.0 c.in_default.ensures.1

@@ -10,8 +10,8 @@ overflow_add-result c = let r = is-report _ c.requires.0 in omega (arith, r.stor
 pub overflow_add-result-2 : goal.overflow_add-result-2
 overflow_add-result-2 c = let r = is-report _ c.requires.0 in omega (arith, r.stores, r.lines, c.requires.1)
 
-pub plus-requires : goal.plus-requires
-plus-requires c =
+pub add-requires : goal.add-requires
+add-requires c =
     let r = is-report _ c.requires.0 in omega (arith, r.stores, r.lines, r.marks, c.requires.1, c.requires.2)
 
 pub plus_answer-requires : goal.plus_answer-requires
@@ -21,4 +21,4 @@ plus_answer-requires c =
 
 pub returns : goal.returns
 unfolding plus
-returns c = rw (c.plus.ensures, c.plus_answer.ensures)
+returns c = rw (c.add.ensures, c.plus_answer.ensures)

@@ -1,8 +1,20 @@
 -- `wear::numbers::add_numbers` meets its contract.
-use borrow.Author.Tests.{ne_eqb}
-use Rattle.tour.specs.Numbers.{report_numbers, add_numbers}
+use mathlib.Core.Path.{◌∙◌}
+use Rattle.std.proofs.lemmas.Result.{err_from_is_err_and}
+use Rattle.wear.proofs.Ten.{not_ten, numbers_taken, numbers_refused}
 use Rattle.wear.proofs.numbers.add_numbers.Goals as goal
 
-pub returns-then-room-ne10 : goal.returns-then-room-ne10
-unfolding add_numbers report_numbers
-returns-then-room-ne10 c = rw (ne_eqb _ _ c.if-room-ne10.true)
+pub returns-in_err-wear : goal.returns-in_err-wear
+returns-in_err-wear c =
+    let p = err_from_is_err_and c.from_residual.result c.from_residual.ensures.1 in
+    rw (p.1, p.2, c.in_err-wear.ensures.1) (not_ten c.args.numbers.now _ c.in_err-wear.ensures.0)
+
+pub returns-in_err-after : goal.returns-in_err-after
+returns-in_err-after c =
+    let p = err_from_is_err_and c.from_residual-in_err-after.result c.from_residual-in_err-after.ensures.1 in
+    rw (p.1, p.2) (numbers_refused c.args.numbers.now _ c.in_ok-wear.ensures.0 _ (rw c.in_ok-wear.ensures.1 at c.in_err-after.ensures))
+
+pub returns : goal.returns
+returns c =
+    numbers_taken c.args.numbers.now _ c.in_ok-wear.ensures.0 _ (rw c.in_ok-wear.ensures.1 at c.in_ok-after.ensures) _
+    (c.copy_from_slice.ensures.after ∙ c.write.ensures)
