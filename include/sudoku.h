@@ -25,7 +25,7 @@
  *   not its `faulty`; the store that a repair writes is not the one that it reads. Buffers that are only read may overlap each other.
  * - Callers of sudoku_change_line and sudoku_repair are compiled with this header. Earlier ones had fewer or other parameters: a
  *   call compiled with one of them still links, and then bytes are written to places that the caller never named.
- * - Repair needs less than 48 kB of stack (about 32 kB of it a table), and so do sudoku_read_one, which may run it, and
+ * - Repair needs less than 48 kB of stack, and so do sudoku_read_one, which may run it, and
  *   sudoku_check_file, which does; making tables needs about 110 kB, whatever the size of the rectangle; sudoku_forecast less than
  *   4 kB (about 2 kB of it counts of faulty lines); the other calls less than 2 kB.
  *

@@ -28,7 +28,7 @@ plain_tools() {
 
 # A copy of what bin/ needs of the repository, with nothing built. Everything in it is old.
 copy_repository() { # FOLDER
-    mkdir -p "$1/crates/one" "$1/crates/capi_c" "$1/crates/storecheck" "$1/rust/captions" "$1/rust/sudoku/src"
+    mkdir -p "$1/crates/one" "$1/crates/capi" "$1/crates/storecheck" "$1/rust/captions" "$1/rust/sudoku/src"
     cp -R bin include docs "$1"
     : >"$1/crates.txt"
     : >"$1/crates/one/lib.rt"

@@ -24,7 +24,7 @@ echo "rt: rt lemma WORD.. finds a lemma"
 [ "${FAILS:-}" != rt ] || exit 3
 [ "${MAKES_NOTHING:-}" != rt ] || exit 0
 mkdir -p out
-echo archive >out/libcapi_c.a
+echo archive >out/libcapi.a
 TOOL
 cat >"$room/tools/cargo" <<'TOOL'
 #!/bin/sh
@@ -73,7 +73,7 @@ said() {
     tr '\n' ';' <"$room/said"
 }
 
-rt_call="rt lib in capi_c;"
+rt_call="rt lib in capi;"
 cargo_call="cargo build --release --offline --locked -p captions --target-dir in rust, SUDOKU_STATICLIB unset;"
 
 # Tools that are missing are told before anything is built.
@@ -87,7 +87,7 @@ same "what its log has" \
 same "what is printed then" "" "$(cat "$room/out")"
 MAKES_NOTHING=rt run show
 same "a library that is not there after all" "1 $rt_call" "$(status) $(called)"
-same "what is said of it" 1 "$(grep -c "^captions: it could not be built: there is no '$copy/crates/capi_c/out/libcapi_c.a';" "$room/said")"
+same "what is said of it" 1 "$(grep -c "^captions: it could not be built: there is no '$copy/crates/capi/out/libcapi.a';" "$room/said")"
 FAILS=cargo run show
 same "a program that cannot be built" "1 $rt_call$cargo_call" "$(status) $(called)"
 same "the last words then" "captions: it could not be built; target/captions.log says why" "$(tail -n 1 "$room/said")"

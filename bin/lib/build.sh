@@ -79,7 +79,7 @@ build_library() {
     ! proved_up_to_date "$library" || return 0
     need rt "the toolchain's command"
     say "proving and building the library; from nothing this takes some minutes, longer where the machine is busy"
-    run_tool "$library" "$root/crates/capi_c/out/libcapi_c.a" "$root/crates/capi_c" rt lib
+    run_tool "$library" "$root/crates/capi/out/libcapi.a" "$root/crates/capi" rt lib
 }
 
 # The program over the library that was just proved, and where it is looked for, whatever the variables say.

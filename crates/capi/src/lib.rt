@@ -1,14 +1,18 @@
-// The C interface: the entry points over slices and numbers, for programs in other languages to link. `capi_c` exports them.
+// The C interface: the entry points over slices and numbers, for programs in other languages to link. include/sudoku.h declares them. C takes
+// answers, marks, steps and orders as numbers, and each beside its value, so that here, and in what `report` prints, a refusal becomes its
+// number; and it takes sizes and buffers one by one.
 // In C a slice is a pointer and a length; the mark, the passes, the number, the step and the order are each returned through a pointer, and
 // so are the eight numbers of a file's layout and of a check, which a C struct of eight fields holds.
 #![tactic(auto)]
 
 ghost use Rattle.std.specs.Prelude.{◌≡◌, length};
+ghost use Rattle.rectangle.specs.Answers.{answer_of, outcome_answer};
 ghost use Rattle.rectangle.specs.Tables.{TablesMade, make_tables};
 ghost use Rattle.rectangle.specs.Change.{LineChanged, change_line};
 ghost use Rattle.rectangle.specs.Repair.{StoreRepaired, repair_store};
 ghost use Rattle.local_decoding.specs.Lookup.{OneRead, read_one};
 ghost use Rattle.forecast.specs.Forecast.{Forecast, forecast};
+ghost use Rattle.tour.specs.Share.{order_number};
 ghost use Rattle.tour.specs.Numbers.{NumbersAdded, add_numbers, compare_numbers};
 ghost use Rattle.storefile.specs.Header.{HeaderWritten, write_header};
 ghost use Rattle.storefile.specs.Opening.{bytes_needed};
@@ -18,8 +22,11 @@ ghost use Rattle.report.specs.Numbers.{FileChecked, check_file};
 ghost use Rattle.capi.specs.Single.{Written, write_line, Answered, read_line};
 
 use linecode::place;
+use rectangle::answers::{Outcome, Refusal};
+use report::report::Checked;
 use report::{check, numbers as figures};
 use single::alone;
+use std::cmp::Ordering;
 use storefile::{header, layout as places, opening};
 use wear::numbers;
 
@@ -29,11 +36,7 @@ fn store(line: [u8; 70], out: &mut [u8])
     requires { length out.old ≡ 70 }
     ensures { out.new ≡ line }
 {
-    let mut i = 0;
-    while i < 64 {
-        out[i] = line[i];
-        i += 1;
-    }
+    out[..64].copy_from_slice(&line[..64]);
     out[64] = line[64];
     out[65] = line[65];
     out[66] = line[66];
@@ -42,19 +45,51 @@ fn store(line: [u8; 70], out: &mut [u8])
     out[69] = line[69];
 }
 
+// What a call answers: 0, or its refusal's number. No `From` here and below: a `Result`, an order and a number are the library's types.
+fn answer<T: Copy>(given: Result<T, Refusal>) -> u32
+    ensures { result ≡ answer_of given }
+{
+    match given {
+        Ok(_) => 0,
+        Err(refusal) => refusal.into(),
+    }
+}
+
+// What a repair answers: its outcome's number, or its refusal's.
+fn outcome_answer(given: Result<Outcome, Refusal>) -> u32
+    ensures { result ≡ outcome_answer given }
+{
+    match given {
+        Ok(outcome) => outcome.into(),
+        Err(refusal) => refusal.into(),
+    }
+}
+
+// An order as C has it.
+fn order_number(order: Ordering) -> u32
+    ensures { result ≡ order_number order }
+{
+    match order {
+        Ordering::Equal => 0,
+        Ordering::Less => 1,
+        Ordering::Greater => 2,
+    }
+}
+
 // A line written from 64 data bytes into `line`.
 #[tactic(auto, using(crate::proofs::Single::no_data_refused, crate::proofs::Single::no_room_refused))]
-pub fn sudoku_write_line(payload: &[u8], line: &mut [u8]) -> u32
+#[unsafe(no_mangle)]
+pub extern "C" fn sudoku_write_line(payload: &[u8], line: &mut [u8]) -> u32
     ensures { ◌≡◌ {A = Written}
         (record { answer = result; line = line.new })
         (write_line payload.now line.old) }
 {
     if payload.len() != 64 {
-        return 7;
+        return Refusal::Room.into();
     }
     let room = line.len();
     if room != 70 {
-        return 7;
+        return Refusal::Room.into();
     }
     let written = alone::rewrite(place::load(payload));
     store(written, line);
@@ -62,30 +97,32 @@ pub fn sudoku_write_line(payload: &[u8], line: &mut [u8]) -> u32
 }
 
 // A line read alone into `out`, and its mark.
-pub fn sudoku_read_line(line: &[u8], out: &mut [u8], mark: &mut u8) -> u32
+#[unsafe(no_mangle)]
+pub extern "C" fn sudoku_read_line(line: &[u8], out: &mut [u8], mark: &mut u8) -> u32
     ensures { ◌≡◌ {A = Answered}
         (record { answer = result; line = out.new; mark = mark.new })
         (read_line line.now out.old) }
 {
     *mark = 0;
     if line.len() != 70 {
-        return 5;
+        return Refusal::Lines.into();
     }
     if out.len() != 70 {
-        return 7;
+        return Refusal::Room.into();
     }
     let read = alone::read_line(place::load(line));
     let given = read.line;
     store(given, out);
     *mark = read.mark;
     if read.mark == 4 {
-        return 10;
+        return Refusal::Faulty.into();
     }
     0
 }
 
 // Both parity tables made from the lines.
-pub fn sudoku_make_tables(
+#[unsafe(no_mangle)]
+pub extern "C" fn sudoku_make_tables(
     rows: usize,
     columns: usize,
     lines: &[u8],
@@ -96,11 +133,12 @@ pub fn sudoku_make_tables(
         (record { answer = result; row_table = row_table.new; column_table = column_table.new })
         (make_tables rows columns lines.now row_table.old column_table.old) }
 {
-    tables::make_tables(rows, columns, lines, row_table, column_table)
+    answer(tables::make_tables(rows, columns, lines, row_table, column_table))
 }
 
 // Line n written anew from 64 data bytes, with its two parity lines, and the number that comes with 13 or 14.
-pub fn sudoku_change_line(
+#[unsafe(no_mangle)]
+pub extern "C" fn sudoku_change_line(
     rows: usize,
     columns: usize,
     lines: &mut [u8],
@@ -122,12 +160,17 @@ pub fn sudoku_change_line(
         payload.now) }
 {
     let changed = change::change_line(rows, columns, lines, row_table, column_table, n, payload);
-    *number = changed.number as u64;
-    changed.answer
+    *number = match changed {
+        Err(Refusal::RowParity(row)) => row.0 as u64,
+        Err(Refusal::ColumnParity(column)) => column.0 as u64,
+        _ => 0,
+    };
+    answer(changed)
 }
 
 // Repair of the lines into `out` and `marks`, of the tables into `row_out` and `column_out`, and its passes.
-pub fn sudoku_repair(
+#[unsafe(no_mangle)]
+pub extern "C" fn sudoku_repair(
     rows: usize,
     columns: usize,
     lines: &[u8],
@@ -162,13 +205,14 @@ pub fn sudoku_repair(
         row_out,
         column_out,
     );
-    *passes = repaired.passes as u64;
-    repaired.answer
+    *passes = repaired.map_or(0, |done| done.passes) as u64;
+    outcome_answer(repaired.map(|done| done.outcome))
 }
 
 // Line n read alone into `line`, then by its row's visit, then by the whole repair, with its mark and the last step taken. The four buffers
 // before `line` are room to work in.
-pub fn sudoku_read_one(
+#[unsafe(no_mangle)]
+pub extern "C" fn sudoku_read_one(
     rows: usize,
     columns: usize,
     lines: &[u8],
@@ -218,13 +262,14 @@ pub fn sudoku_read_one(
         column_room,
         line,
     );
-    *mark = one.mark;
-    *step = one.step;
-    one.answer
+    *mark = one.map_or(0, |read| read.mark);
+    *step = one.map_or(0, |read| read.step.into());
+    outcome_answer(one.map(|read| read.outcome()))
 }
 
 // What rebuilding alone would save, from a byte for each line: the marks, and the passes.
-pub fn sudoku_forecast(
+#[unsafe(no_mangle)]
+pub extern "C" fn sudoku_forecast(
     rows: usize,
     columns: usize,
     faulty: &[u8],
@@ -236,56 +281,62 @@ pub fn sudoku_forecast(
         (forecast rows columns faulty.now marks.old) }
 {
     let foreseen = peeling::forecast(rows, columns, faulty, marks);
-    *passes = foreseen.passes as u64;
-    foreseen.answer
+    *passes = foreseen.unwrap_or(0) as u64;
+    answer(foreseen)
 }
 
 // A repair result taken into a wear report of ten numbers.
-pub fn sudoku_wear_add(wear: &mut [u64], marks: &[u8], answer: u32) -> u32
+#[unsafe(no_mangle)]
+pub extern "C" fn sudoku_wear_add(wear: &mut [u64], marks: &[u8], answer: u32) -> u32
     ensures { ◌≡◌ {A = NumbersAdded}
         (record { answer = result; numbers = wear.new })
         (add_numbers wear.old (record { marks = marks.now; answer = answer })) }
 {
-    numbers::add_numbers(wear, marks, answer)
+    self::answer(numbers::add_numbers(wear, marks, answer))
 }
 
 // The shares of rebuilt lines of two wear reports compared, and their order.
-pub fn sudoku_wear_compare(a: &[u64], b: &[u64], order: &mut u32) -> u32
+#[unsafe(no_mangle)]
+pub extern "C" fn sudoku_wear_compare(a: &[u64], b: &[u64], order: &mut u32) -> u32
     ensures { record { answer = result; order = order.new } ≡ compare_numbers a.now b.now }
 {
     let compared = numbers::compare_numbers(a, b);
-    *order = compared.order;
-    compared.answer
+    *order = compared.map_or(0, |order| order_number(order));
+    answer(compared)
 }
 
 // A store file opened: its rows and columns, and the offset and length of lines, row table and column table.
-pub fn sudoku_open_file(file: &[u8], layout: &mut [u64; 8]) -> u32
+#[unsafe(no_mangle)]
+pub extern "C" fn sudoku_open_file(file: &[u8], layout: &mut [u64; 8]) -> u32
     ensures { record { answer = result; numbers = layout.new } ≡ layout_in file.now }
 {
     let found = places::layout_of(file);
-    let numbers = found.numbers;
+    let numbers = found.unwrap_or([0; 8]);
     *layout = numbers;
-    found.answer
+    answer(found)
 }
 
 // The header of a store file of given rows and columns.
-pub fn sudoku_write_header(rows: usize, columns: usize, header: &mut [u8]) -> u32
+#[unsafe(no_mangle)]
+pub extern "C" fn sudoku_write_header(rows: usize, columns: usize, header: &mut [u8]) -> u32
     ensures { ◌≡◌ {A = HeaderWritten}
         (record { answer = result; out = header.new })
         (write_header rows columns header.old) }
 {
-    header::write_header(rows, columns, header)
+    answer(header::write_header(rows, columns, header))
 }
 
 // How many bytes of a file a reader needs that has its first 28.
-pub fn sudoku_bytes_needed(start: &[u8]) -> usize
+#[unsafe(no_mangle)]
+pub extern "C" fn sudoku_bytes_needed(start: &[u8]) -> usize
     ensures { result ≡ bytes_needed 512 start.now }
 {
     opening::bytes_needed(512, start)
 }
 
 // A check of a whole store file: its store repaired into the four buffers, and the report's numbers.
-pub fn sudoku_check_file(
+#[unsafe(no_mangle)]
+pub extern "C" fn sudoku_check_file(
     file: &[u8],
     out: &mut [u8],
     marks: &mut [u8],
@@ -302,7 +353,7 @@ pub fn sudoku_check_file(
         (check_file file.now
         (lent out.old marks.old row_out.old column_out.old)) }
 {
-    let checked = check::check(file, out, marks, row_out, column_out);
+    let checked = Checked::from(check::check(file, out, marks, row_out, column_out));
     *found = figures::numbers(checked);
     checked.answer
 }

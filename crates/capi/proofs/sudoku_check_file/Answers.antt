@@ -3,5 +3,4 @@ use Rattle.capi.proofs.Files.{file-checked}
 use Rattle.capi.proofs.sudoku_check_file.Goals as goal
 
 pub returns : goal.returns
-returns c =
-    file-checked _ _ _ _ c.check-checked.ensures c.numbers.ensures
+returns c = file-checked _ _ _ _ (rw c.from-checked.ensures c.check.ensures) c.numbers.ensures
