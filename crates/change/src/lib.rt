@@ -11,7 +11,9 @@ ghost use Rattle.rectangle.specs.Change.{LineChanged, change_line};
 
 use linecode::place;
 use rectangle::answers::Refusal;
-use rectangle::lines::{ColumnIndex, GroupIndex, RowIndex, line_at, put_line};
+use rectangle::lines::{
+    ColumnIndex, RowIndex, add_to_column, add_to_row, column_parity, line_at, put_line, row_parity,
+};
 use rectangle::sizes;
 use rectangle::sizes::Sides;
 use single::alone;
@@ -30,8 +32,8 @@ fn check_parity(
         (parity_correct (column_group rows columns column_table.now column.0)) 0 }
     ensures number { index_with result ≡ number_with (answer_of result) row.0 column.0 }
 {
-    let of_row = row.parity(row_table);
-    let of_column = column.parity(column_table);
+    let of_row = row_parity(row_table, row);
+    let of_column = column_parity(column_table, column);
     if !alone::is_correct(of_row) {
         return Err(Refusal::RowParity(row));
     }
@@ -108,7 +110,7 @@ pub fn change_line(
     let new = alone::rewrite(place::load(payload));
     let both = place::xor_lines(old, new);
     put_line(lines, n, new);
-    sides.row_of(n).add_to(row_table, both);
-    sides.column_of(n).add_to(column_table, both);
+    add_to_row(row_table, sides.row_of(n), both);
+    add_to_column(column_table, sides.column_of(n), both);
     Ok(())
 }

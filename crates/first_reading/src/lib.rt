@@ -16,7 +16,7 @@ use groups::tracked::Which;
 use line_table::LineTable;
 use linecode::place;
 use rectangle::lines;
-use rectangle::lines::{ColumnIndex, GroupIndex, RowIndex};
+use rectangle::lines::{ColumnIndex, RowIndex};
 use rectangle::sizes::Sides;
 
 // A row whose lines are being added: its difference, and how many of its lines are faulty. They are carried by value, since every line
@@ -77,7 +77,7 @@ fn add_piece(
         let own = ColumnIndex(column.0 + i);
         let line = lines::line_at(out, m);
         row.difference = place::xor_bytes(row.difference, line);
-        own.add_to_sum(column_lacks, line);
+        lines::add_to_column_sum(column_lacks, own, line);
         if marks[m] == 4 {
             row.hurt += 1;
             tracked::more(faulty, sides.rows, Which::Column(own), 1);
@@ -112,7 +112,7 @@ fn read_row(
         faulty.new first (first + sides.columns) }
 {
     let mut tally = OpenRow {
-        difference: row.parity(row_lacks),
+        difference: lines::row_parity(row_lacks, row),
         hurt: tracked::count(faulty, sides.rows, Which::Row(row)),
     };
     let mut c = 0;
@@ -134,7 +134,7 @@ fn read_row(
         );
         c += count;
     }
-    row.put_parity(row_lacks, tally.difference);
+    lines::put_row_parity(row_lacks, row, tally.difference);
     tracked::put_count(faulty, sides.rows, Which::Row(row), tally.hurt);
 }
 

@@ -12,7 +12,8 @@ ghost use Rattle.std.specs.Prelude.{◌≡◌, not, ◌+◌, ◌-◌, ◌≤◌,
 ghost use Rattle.groups.specs.Lent.{number_of, difference_of, Reached};
 ghost use Rattle.groups.specs.declared.tracked.Which.TheVariants.{Row, Column};
 
-use rectangle::lines::{ColumnIndex, GroupIndex, RowIndex};
+use rectangle::lines;
+use rectangle::lines::{ColumnIndex, RowIndex};
 use std::convert::From;
 
 // A group: a row or a column, each by its own number.
@@ -55,8 +56,8 @@ pub fn difference(row_lacks: &[u8], column_lacks: &[u8], which: Which) -> [u8; 7
     ensures { result ≡ difference_of row_lacks.now column_lacks.now which }
 {
     match which {
-        Which::Row(row) => row.parity(row_lacks),
-        Which::Column(column) => column.parity(column_lacks),
+        Which::Row(row) => lines::row_parity(row_lacks, row),
+        Which::Column(column) => lines::column_parity(column_lacks, column),
     }
 }
 

@@ -16,7 +16,7 @@ use Rattle.gf2.proofs.Xor.{xor-append, take-xor, drop-xor}
 use Rattle.gf2.proofs.Weight.{take-flip, drop-flip, drop-flip-add, flip-append, flip-append-add, flip-past}
 use Rattle.linecode.specs.Places.{data_places, protected_places, hamming_places, line_places, line_bytes, bits_of, bytes_of, places, line_of, xor_bytes}
 use Rattle.linecode.specs.Code.{protected, data_of, stored_hamming}
-use Rattle.linecode.proofs.Bytes.{Bytes, length-bits_of, bits_of-append, take-bits_of, bytes_of-append, bits_of-bytes_of, length-bytes_of, bits_of-xor, xor_bytes-bytes_of, flip-bits_of, get_or-bits_of}
+use Rattle.linecode.proofs.Bytes.{Bytes, length-bits_of, bits_of-append, take-bits_of, bytes_of-append, bits_of-bytes_of, bytes-bytes_of, length-bytes_of, bits_of-xor, xor_bytes-bytes_of, flip-bits_of, get_or-bits_of}
 
 -- ---- the named numbers
 pub protected-is : protected_places ≡ 543
@@ -265,7 +265,7 @@ module _ (l : List ℕ) (whole : length l ≡ 70) where
       parts : (n : ℕ) → 8 * (n / 8) + n % 8 ≡ n
       parts n = omega arith
 
-  flip-protected : (i : ℕ) → i < 543 → places (set l (i / 8) (bit_xor (get_or l (i / 8) 0) (2 ^ (i % 8)))) ≡ flip i (places l)
+  pub flip-protected : (i : ℕ) → i < 543 → places (set l (i / 8) (bit_xor (get_or l (i / 8) 0) (2 ^ (i % 8)))) ≡ flip i (places l)
   unfolding places
   flip-protected i h =
       ap (λ (w : Word). take protected_places w ++ take hamming_places (drop (suc protected_places) w)) (turned i (omega arith))
@@ -274,7 +274,7 @@ module _ (l : List ℕ) (whole : length l ≡ 70) where
       ∙ sym (flip-append i (take protected_places (bits_of l)) (take hamming_places (drop (suc protected_places) (bits_of l)))
       (omega (arith, front_length, protected-is)))
 
-  flip-hamming : (i : ℕ) → 543 ≤ i → i < 553
+  pub flip-hamming : (i : ℕ) → 543 ≤ i → i < 553
       → places (set l ((i + 1) / 8) (bit_xor (get_or l ((i + 1) / 8) 0) (2 ^ ((i + 1) % 8)))) ≡ flip i (places l)
   unfolding places
   flip-hamming i h j =
@@ -356,6 +356,10 @@ pub length-line_of : (w : Word) → length (line_of w) ≡ 70
 unfolding line_of
 length-line_of w = length-bytes_of line_bytes (take protected_places w ++ (false ∷ drop protected_places w)) ∙ bytes-is
 
+pub bytes-line_of : (w : Word) → Bytes (line_of w)
+unfolding line_of
+bytes-line_of w = bytes-bytes_of line_bytes (take protected_places w ++ (false ∷ drop protected_places w))
+
 module _ (w : Word) (least : 543 ≤ length w) (most : length w ≤ 553) where
   front : Word
   front = take protected_places w
@@ -380,7 +384,15 @@ module _ (w : Word) (least : 543 ≤ length w) (most : length w ≤ 553) where
           ∙ ap₂ ◌+◌ (length-append front (false ∷ drop protected_places w)) (length-replicate (559 - length w) false)
           ∙ omega (arith, length-front-w, length-drop protected_places w, protected-is, bytes-is)
 
-  -- all places come back, where there are 553
+  -- the protected places come back
+  pub protected-line_of : protected (places (line_of w)) ≡ take protected_places w
+  unfolding front
+  protected-line_of =
+      protected-bits (line_of w) (length-line_of w)
+      ∙ ap (take protected_places) bits-line_of
+      ∙ take_at front (false ∷ (drop protected_places w ++ zeros (559 - length w))) protected_places length-front-w
+
+  -- and so do all places, where there are 553
   pub places-line_of : length w ≡ line_places → places (line_of w) ≡ w
   unfolding places front
   places-line_of e =

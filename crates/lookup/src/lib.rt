@@ -18,7 +18,6 @@ use groups::tracked::Which;
 use linecode::alone::Reading;
 use rectangle::answers::{Outcome, Refusal};
 use rectangle::lines;
-use rectangle::lines::GroupIndex;
 use rectangle::store::Store;
 use single::alone;
 
@@ -92,7 +91,7 @@ fn by_row(store: Store, n: usize, out: &mut [u8], marks: &mut [u8]) -> Reading
     let row = store.sides.row_of(n);
     let span = groups::choose(store.sides, Which::Row(row)).span;
     read_group(store.lines, out, marks, span);
-    let parity = alone::read_line(row.parity(store.row_table));
+    let parity = alone::read_line(lines::row_parity(store.row_table, row));
     if parity.mark != 4 {
         let used = parity.line;
         visiting::visit_group(out, marks, used, span);

@@ -12,7 +12,6 @@ use groups::{Chosen, tracked};
 use line_table::LineTable;
 use linecode::place;
 use rectangle::lines;
-use rectangle::lines::GroupIndex;
 use rectangle::sizes::Sides;
 use std::convert::Into;
 
@@ -44,9 +43,9 @@ fn mend(
     marks[n] = mark;
     let row = sides.row_of(n);
     let column = sides.column_of(n);
-    row.add_to_sum(row_lacks, change);
+    lines::add_to_row_sum(row_lacks, row, change);
     tracked::one_less(faulty, sides.rows, row.into());
-    column.add_to_sum(column_lacks, change);
+    lines::add_to_column_sum(column_lacks, column, change);
     tracked::one_less(faulty, sides.rows, column.into());
 }
 

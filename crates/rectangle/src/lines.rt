@@ -91,6 +91,74 @@ impl GroupIndex for ColumnIndex {
     }
 }
 
+// The tables and sums of rows and of columns, each by functions of its own that take its own index: with the other's they don't compile. A
+// body that knows which of the two it works on goes by these; the trait serves one that works on either.
+// The parity line of a row.
+pub fn row_parity(row_table: &[u8], row: RowIndex) -> [u8; 70]
+    requires { suc row.0 * 70 ≤ length row_table.now }
+    ensures { result ≡ bytes_at row_table.now row.0 }
+{
+    row.parity(row_table)
+}
+
+// The parity line of a column.
+pub fn column_parity(column_table: &[u8], column: ColumnIndex) -> [u8; 70]
+    requires { suc column.0 * 70 ≤ length column_table.now }
+    ensures { result ≡ bytes_at column_table.now column.0 }
+{
+    column.parity(column_table)
+}
+
+// The parity line of a row, written.
+pub fn put_row_parity(row_table: &mut [u8], row: RowIndex, line: [u8; 70])
+    requires { suc row.0 * 70 ≤ length row_table.old }
+    ensures { row_table.new ≡ put_bytes row_table.old row.0 line }
+{
+    row.put_parity(row_table, line);
+}
+
+// The parity line of a column, written.
+pub fn put_column_parity(column_table: &mut [u8], column: ColumnIndex, line: [u8; 70])
+    requires { suc column.0 * 70 ≤ length column_table.old }
+    ensures { column_table.new ≡ put_bytes column_table.old column.0 line }
+{
+    column.put_parity(column_table, line);
+}
+
+// A line put into a row's sum by exclusive or, byte by byte.
+pub fn add_to_row_sum(row_sums: &mut [u8], row: RowIndex, line: [u8; 70])
+    requires { suc row.0 * 70 ≤ length row_sums.old }
+    ensures { row_sums.new
+        ≡ put_bytes row_sums.old row.0 (xor_bytes (bytes_at row_sums.old row.0) line) }
+{
+    row.add_to_sum(row_sums, line);
+}
+
+// A line put into a column's sum by exclusive or, byte by byte.
+pub fn add_to_column_sum(column_sums: &mut [u8], column: ColumnIndex, line: [u8; 70])
+    requires { suc column.0 * 70 ≤ length column_sums.old }
+    ensures { column_sums.new
+        ≡ put_bytes column_sums.old column.0 (xor_bytes (bytes_at column_sums.old column.0) line) }
+{
+    column.add_to_sum(column_sums, line);
+}
+
+// A line put into the parity line of a row by exclusive or.
+pub fn add_to_row(row_table: &mut [u8], row: RowIndex, line: [u8; 70])
+    requires { suc row.0 * 70 ≤ length row_table.old }
+    ensures { row_table.new ≡ add_to row_table.old row.0 (places line) }
+{
+    row.add_to(row_table, line);
+}
+
+// A line put into the parity line of a column by exclusive or.
+pub fn add_to_column(column_table: &mut [u8], column: ColumnIndex, line: [u8; 70])
+    requires { suc column.0 * 70 ≤ length column_table.old }
+    ensures { column_table.new ≡ add_to column_table.old column.0 (places line) }
+{
+    column.add_to(column_table, line);
+}
+
 impl Sides {
     // The row of line n.
     pub fn row_of(self, n: usize) -> RowIndex

@@ -24,11 +24,11 @@ decimal-written =
 
 -- ---- the report, case by case
 module _ (c : Checked) where
-  text-last : hands_over c.answer ≡ false → line (ascii "answer") c.answer ≡ report_text c
+  pub text-last : hands_over c.answer ≡ false → line (ascii "answer") c.answer ≡ report_text c
   unfolding report_text
   text-last e = rw e
 
-  text-whole : hands_over c.answer ≡ true → lines_above c ++ line (ascii "answer") c.answer ≡ report_text c
+  pub text-whole : hands_over c.answer ≡ true → lines_above c ++ line (ascii "answer") c.answer ≡ report_text c
   unfolding report_text
   text-whole e = rw e
 
@@ -38,7 +38,7 @@ module _ (c : Checked) where
     report-refused d = rw (ne_eqb (length out) 256 d)
 
     module _ (room : length out ≡ 256) where
-      report-given : (text new : List ℕ) (size : ℕ) → text ≡ report_text c → Put out 0 text new size
+      pub report-given : (text new : List ℕ) (size : ℕ) → text ≡ report_text c → Put out 0 text new size
           → record { answer = 0; size = size; out = new } ≡ write_report c out
       unfolding write_report report_bytes
       report-given text new size is p =

@@ -68,9 +68,9 @@ fn repair_opened(
         (repair_opened file.now sides.rows sides.columns
         (lent out.old marks.old row_out.old column_out.old)) }
 {
-    let lines = opening::part_of(file, header::lines_part(sides));
-    let row_table = opening::part_of(file, header::row_table_part(sides));
-    let column_table = opening::part_of(file, header::column_table_part(sides));
+    let lines = opening::part_of(file, header::lines_part(sides.rows, sides.columns));
+    let row_table = opening::part_of(file, header::row_table_part(sides.rows, sides.columns));
+    let column_table = opening::part_of(file, header::column_table_part(sides.rows, sides.columns));
     repair::repair(
         sides.rows,
         sides.columns,

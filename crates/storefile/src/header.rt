@@ -28,33 +28,36 @@ impl Part {
     }
 }
 
-// Where the lines stand.
-pub fn lines_part(sides: Sides) -> Part
-    ensures { result ≡ lines_part sides.rows sides.columns }
+// Where the lines stand. Of the three parts also for sides that no rectangle has, as those are that come with a refusal: so no `Sides`.
+pub fn lines_part(rows: usize, columns: usize) -> Part
+    requires { (rows ≤ 512) × (columns ≤ 512) }
+    ensures { result ≡ lines_part rows columns }
 {
     Part {
         offset: 28,
-        size: sides.lines() * 70,
+        size: rows * columns * 70,
     }
 }
 
 // Where the row table stands.
-pub fn row_table_part(sides: Sides) -> Part
-    ensures { result ≡ row_table_part sides.rows sides.columns }
+pub fn row_table_part(rows: usize, columns: usize) -> Part
+    requires { (rows ≤ 512) × (columns ≤ 512) }
+    ensures { result ≡ row_table_part rows columns }
 {
     Part {
-        offset: lines_part(sides).end(),
-        size: sides.rows * 70,
+        offset: lines_part(rows, columns).end(),
+        size: rows * 70,
     }
 }
 
 // Where the column table stands.
-pub fn column_table_part(sides: Sides) -> Part
-    ensures { result ≡ column_table_part sides.rows sides.columns }
+pub fn column_table_part(rows: usize, columns: usize) -> Part
+    requires { (rows ≤ 512) × (columns ≤ 512) }
+    ensures { result ≡ column_table_part rows columns }
 {
     Part {
-        offset: row_table_part(sides).end(),
-        size: sides.columns * 70,
+        offset: row_table_part(rows, columns).end(),
+        size: columns * 70,
     }
 }
 
@@ -62,7 +65,7 @@ pub fn column_table_part(sides: Sides) -> Part
 pub fn file_length(sides: Sides) -> usize
     ensures { result ≡ file_length sides.rows sides.columns }
 {
-    column_table_part(sides).end()
+    column_table_part(sides.rows, sides.columns).end()
 }
 
 // An entry of the contents table, put from a place on.
@@ -81,9 +84,9 @@ fn put_header(out: &mut [u8], sides: Sides)
 {
     bytes::put_number::<2>(out, 0, sides.rows);
     bytes::put_number::<2>(out, 2, sides.columns);
-    put_entry(out, 4, lines_part(sides));
-    put_entry(out, 12, row_table_part(sides));
-    put_entry(out, 20, column_table_part(sides));
+    put_entry(out, 4, lines_part(sides.rows, sides.columns));
+    put_entry(out, 12, row_table_part(sides.rows, sides.columns));
+    put_entry(out, 20, column_table_part(sides.rows, sides.columns));
 }
 
 // A header of given rows and columns, which come one by one, as C hands them over.

@@ -13,9 +13,9 @@ use rectangle::sizes::Sides;
 fn numbers(sides: Sides) -> [u64; 8]
     ensures { result ≡ layout_numbers sides.rows sides.columns }
 {
-    let lines = header::lines_part(sides);
-    let row_table = header::row_table_part(sides);
-    let column_table = header::column_table_part(sides);
+    let lines = header::lines_part(sides.rows, sides.columns);
+    let row_table = header::row_table_part(sides.rows, sides.columns);
+    let column_table = header::column_table_part(sides.rows, sides.columns);
     [
         sides.rows as u64,
         sides.columns as u64,

@@ -28,9 +28,9 @@ fn entries_fit(file: &[u8], sides: Sides) -> bool
     requires { 28 ≤ length file.now }
     ensures { result ≡ entries_fit file.now sides.rows sides.columns }
 {
-    part_in(file, 4) == header::lines_part(sides)
-        && part_in(file, 12) == header::row_table_part(sides)
-        && part_in(file, 20) == header::column_table_part(sides)
+    part_in(file, 4) == header::lines_part(sides.rows, sides.columns)
+        && part_in(file, 12) == header::row_table_part(sides.rows, sides.columns)
+        && part_in(file, 20) == header::column_table_part(sides.rows, sides.columns)
 }
 
 // Whether the contents table and the file's length are those that rows and columns require.

@@ -134,7 +134,7 @@ module _ (l : List ℕ) (whole : length l ≡ 70) (bytes : Bytes l) where
       bits =
           ap₂ digits (sym (length-stored_crc l whole bytes)) e ∙ digits_number (stored_crc (places l))
 
-  positions-sum : (x0 x1 x2 x3 x4 c : ℕ)
+  pub positions-sum : (x0 x1 x2 x3 x4 c : ℕ)
       → x0 ≡ column_sum fields (bits_of (block_of 0)) → x1 ≡ column_sum fields (bits_of (block_of 16))
       → x2 ≡ column_sum fields (bits_of (block_of 32)) → x3 ≡ column_sum fields (bits_of (block_of 48))
       → c ≡ number (stored_crc (places l)) → x4 ≡ column_sum fields (digits 32 (2 * c))
@@ -152,21 +152,21 @@ module _ (l : List ℕ) (whole : length l ≡ 70) (bytes : Bytes l) where
       ∙ ap₂ column_sum (sym positions-from) (sym protected-blocks)
 
   -- the data are the four blocks
-  block-length : (i : ℕ) → i + 16 ≤ 70 → length (block_of i) ≡ 16
+  pub block-length : (i : ℕ) → i + 16 ≤ 70 → length (block_of i) ≡ 16
   block-length i h = length-take-le 16 (drop i l) (omega (arith, length-drop i l))
 
-  data-blocks : ((block_of 0 ++ block_of 16) ++ block_of 32) ++ block_of 48 ≡ take 64 l
+  pub data-blocks : ((block_of 0 ++ block_of 16) ++ block_of 32) ++ block_of 48 ≡ take 64 l
   data-blocks =
       sym (take-add 48 16 l
       ∙ ap (λ (t : List ℕ). t ++ block_of 48)
       (take-add 32 16 l ∙ ap (λ (t : List ℕ). t ++ block_of 32) (take-add 16 16 l)))
 
-  stored-lt : (c : ℕ) → c ≡ number (stored_crc (places l)) → c < 2 ^ 31
+  pub stored-lt : (c : ℕ) → c ≡ number (stored_crc (places l)) → c < 2 ^ 31
   stored-lt c e =
       subst (λ (n : ℕ). n < 2 ^ 31) (sym e)
       (subst (λ (k : ℕ). number (stored_crc (places l)) < 2 ^ k) (length-stored_crc l whole bytes) (number_lt (stored_crc (places l))))
 
-  stored-number : (r : ℕ) → r ≡ get_or l 64 0 + 256 * (get_or l 65 0 + 256 * (get_or l 66 0 + 256 * (get_or l 67 0 % 128)))
+  pub stored-number : (r : ℕ) → r ≡ get_or l 64 0 + 256 * (get_or l 65 0 + 256 * (get_or l 66 0 + 256 * (get_or l 67 0 % 128)))
       → r ≡ number (stored_crc (places l))
   stored-number r e = e ∙ apart-bytes (get_or l 64 0) (get_or l 65 0) (get_or l 66 0) (get_or l 67 0 % 128) ∙ stored_crc-number l whole bytes
     where
@@ -174,7 +174,7 @@ module _ (l : List ℕ) (whole : length l ≡ 70) (bytes : Bytes l) where
       apart-bytes a b c d = omega arith
 
 -- what a slice tells of its bytes
-all-bytes : (l : List ℕ) → ((i : ℕ) → get_or l i 0 < 256) → Bytes l
+pub all-bytes : (l : List ℕ) → ((i : ℕ) → get_or l i 0 < 256) → Bytes l
 all-bytes [] h = tt
 all-bytes (b ∷ l) h = (h 0, all-bytes l (λ i. h (suc i)))
 

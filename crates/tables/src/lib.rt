@@ -10,7 +10,9 @@ ghost use Rattle.tables.specs.Sweep.{PieceSums, PieceRead, LinesAdded, PieceSumm
 use line_table::LineTable;
 use linecode::place;
 use rectangle::answers::Refusal;
-use rectangle::lines::{ColumnIndex, GroupIndex, RowIndex, line_at, read_into};
+use rectangle::lines::{
+    ColumnIndex, RowIndex, add_to_column_sum, line_at, put_row_parity, read_into,
+};
 use rectangle::sizes;
 use rectangle::sizes::Sides;
 
@@ -83,7 +85,7 @@ impl Piece<'_> {
             // An array that a call gives is bound first: the proof doesn't cover it where it is put at once.
             let next = place::xor_bytes(total, line);
             total = next;
-            ColumnIndex(c + i).add_to_sum(column_sums, line);
+            add_to_column_sum(column_sums, ColumnIndex(c + i), line);
         }
         total
     }
@@ -167,7 +169,7 @@ fn sweep(
         let Some(line) = sum_row(table, lines, first, sides.columns, &mut room, column_sums) else {
             return false;
         };
-        RowIndex(r).put_parity(row_sums, line);
+        put_row_parity(row_sums, RowIndex(r), line);
     }
     true
 }

@@ -17,12 +17,12 @@ pub put_line-requires : goal.put_line-requires
 put_line-requires c =
     let p = change-passed _ _ _ _ _ _ _ (sym c.in_ok-sides.ensures.answer) in line-room _ _ _ _ _ p.sizes _ p.inside
 
-pub add_to-requires : goal.add_to-requires
-add_to-requires c =
+pub add_to_row-requires : goal.add_to_row-requires
+add_to_row-requires c =
     let p = change-passed _ _ _ _ _ _ _ (sym c.in_ok-sides.ensures.answer) in row_room _ _ _ _ _ p.sizes _ p.inside _ (rw c.in_ok-sides.ensures.sides.1 at c.row_of.ensures)
 
-pub add_to-requires-2 : goal.add_to-requires-2
-add_to-requires-2 c =
+pub add_to_column-requires : goal.add_to_column-requires
+add_to_column-requires c =
     let p = change-passed _ _ _ _ _ _ _ (sym c.in_ok-sides.ensures.answer) in column-room _ _ _ _ _ p.sizes _ p.inside _ (rw c.in_ok-sides.ensures.sides.1 at c.column_of.ensures)
 
 pub returns : goal.returns
@@ -37,5 +37,5 @@ returns c =
     change-made c.args.rows c.args.columns c.args.lines.now c.args.row_table.now c.args.column_table.now c.args.n c.args.payload.now
     _ _ _ none
     (put-new c.args.lines.now c.args.n c.args.payload.now p.payload_bytes c.rewrite-new.result _ new c.put_line.ensures)
-    (c.add_to.ensures ∙ ap₂ (add_to c.args.row_table.now) (rw c.in_ok-sides.ensures.sides.1 at c.row_of.ensures) both)
-    (c.add_to-2.ensures ∙ ap₂ (add_to c.args.column_table.now) (rw c.in_ok-sides.ensures.sides.1 at c.column_of.ensures) both)
+    (c.add_to_row.ensures ∙ ap₂ (add_to c.args.row_table.now) (rw c.in_ok-sides.ensures.sides.1 at c.row_of.ensures) both)
+    (c.add_to_column.ensures ∙ ap₂ (add_to c.args.column_table.now) (rw c.in_ok-sides.ensures.sides.1 at c.column_of.ensures) both)

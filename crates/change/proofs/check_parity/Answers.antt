@@ -23,18 +23,18 @@ of-column rows columns table k line e ok f =
 
 pub returns-then-not-is_correct-clause-answer : goal.returns-then-not-is_correct-clause-answer
 returns-then-not-is_correct-clause-answer c = λ rows columns.
-    rw (of-row columns _ _ _ c.parity-of_row.ensures _ c.is_correct.ensures ∙ c.if-not-is_correct.true)
+    rw (of-row columns _ _ _ c.row_parity-of_row.ensures _ c.is_correct.ensures ∙ c.if-not-is_correct.true)
 
 pub returns-then-not-is_correct-2-clause-answer : goal.returns-then-not-is_correct-2-clause-answer
 returns-then-not-is_correct-2-clause-answer c = λ rows columns.
     rw (
-      of-row columns _ _ _ c.parity-of_row.ensures _ c.is_correct.ensures ∙ c.if-not-is_correct.false,
-      of-column rows columns _ _ _ c.parity-of_column.ensures _ c.is_correct-2.ensures ∙ c.if-not-is_correct-2.true,
+      of-row columns _ _ _ c.row_parity-of_row.ensures _ c.is_correct.ensures ∙ c.if-not-is_correct.false,
+      of-column rows columns _ _ _ c.column_parity-of_column.ensures _ c.is_correct-2.ensures ∙ c.if-not-is_correct-2.true,
     )
 
 pub returns-clause-answer : goal.returns-clause-answer
 returns-clause-answer c = λ rows columns.
     rw (
-      of-row columns _ _ _ c.parity-of_row.ensures _ c.is_correct.ensures ∙ c.if-not-is_correct.false,
-      of-column rows columns _ _ _ c.parity-of_column.ensures _ c.is_correct-2.ensures ∙ c.if-not-is_correct-2.false,
+      of-row columns _ _ _ c.row_parity-of_row.ensures _ c.is_correct.ensures ∙ c.if-not-is_correct.false,
+      of-column rows columns _ _ _ c.column_parity-of_column.ensures _ c.is_correct-2.ensures ∙ c.if-not-is_correct-2.false,
     )

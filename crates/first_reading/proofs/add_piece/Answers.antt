@@ -21,9 +21,9 @@ pub loop-i-preserved : goal.loop-i-preserved
 loop-i-preserved c =
     elim c.if-marks-m-eq4.branch [
       | then-marks-m-eq4 w ↦
-          adding-faulty _ _ _ _ _ _ _ _ _ _ _ _ _ _ _ c.loop-i.invariant c.loop-i-test.true _ _ _ c.line_at-line.ensures c.add_to_sum.auto.sums c.add_to_sum.ensures (ap (λ (r : OpenRow). r.difference) w.row-is ∙ c.xor_bytes-row.ensures) _ _ w.if-marks-m-eq4.true (w.faulty-is ∙ w.more.ensures) (ap (λ (r : OpenRow). r.hurt) w.row-is)
+          adding-faulty _ _ _ _ _ _ _ _ _ _ _ _ _ _ _ c.loop-i.invariant c.loop-i-test.true _ _ _ c.line_at-line.ensures c.add_to_column_sum.auto.column_sums c.add_to_column_sum.ensures (ap (λ (r : OpenRow). r.difference) w.row-is ∙ c.xor_bytes-row.ensures) _ _ w.if-marks-m-eq4.true (w.faulty-is ∙ w.more.ensures) (ap (λ (r : OpenRow). r.hurt) w.row-is)
       | else-marks-m-eq4 w ↦
-          adding_other _ _ _ _ _ _ _ _ _ _ _ _ _ _ _ c.loop-i.invariant c.loop-i-test.true _ _ _ c.line_at-line.ensures c.add_to_sum.auto.sums c.add_to_sum.ensures (ap (λ (r : OpenRow). r.difference) w.row-is ∙ c.xor_bytes-row.ensures) _ _ w.if-marks-m-eq4.false w.faulty-is (ap (λ (r : OpenRow). r.hurt) w.row-is)
+          adding_other _ _ _ _ _ _ _ _ _ _ _ _ _ _ _ c.loop-i.invariant c.loop-i-test.true _ _ _ c.line_at-line.ensures c.add_to_column_sum.auto.column_sums c.add_to_column_sum.ensures (ap (λ (r : OpenRow). r.difference) w.row-is ∙ c.xor_bytes-row.ensures) _ _ w.if-marks-m-eq4.false w.faulty-is (ap (λ (r : OpenRow). r.hurt) w.row-is)
     ]
 
 pub returns : goal.returns

@@ -9,7 +9,7 @@ use Rattle.first_reading.proofs.read_row.Goals as goal
 
 pub loop-c-init : goal.loop-c-init
 loop-c-init c =
-    let row = c.parity.ensures ∙ sym (first-at c.args.row_lacks.now c.args.column_lacks.now c.args.sides.rows c.requires.row.3 _ c.requires.row.1) in
+    let row = c.row_parity.ensures ∙ sym (first-at c.args.row_lacks.now c.args.column_lacks.now c.args.sides.rows c.requires.row.3 _ c.requires.row.1) in
     (sweeping_start _ _ _ _ _ _ _ _ _ c.requires.row.1 _ _ c.requires.room c.requires.some row c.count.ensures, c.requires.row.4)
 
 pub add_piece-tally-requires : goal.add_piece-tally-requires
@@ -40,5 +40,5 @@ loop-c-preserved c =
 
 pub returns : goal.returns
 returns c =
-    let last = ap (λ (l : List ℕ). l ++ c.loop-c.column_lacks) c.put_parity.ensures ∙ first-put c.args.row_lacks.now c.loop-c.column_lacks c.args.sides.rows c.requires.row.3 _ _ c.requires.row.1 in
+    let last = ap (λ (l : List ℕ). l ++ c.loop-c.column_lacks) c.put_row_parity.ensures ∙ first-put c.args.row_lacks.now c.loop-c.column_lacks c.args.sides.rows c.requires.row.3 _ _ c.requires.row.1 in
     sweeping_end _ _ _ _ _ _ _ _ _ c.requires.row.1 _ _ _ _ _ _ _ c.loop-c.invariant.0 c.loop-c-test.false _ _ last c.put_count.ensures

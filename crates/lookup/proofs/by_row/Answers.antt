@@ -17,7 +17,7 @@ choose-requires c =
 pub returns : goal.returns
 returns c =
     let lines = row-chosen _ _ _ _ _ _ _ c.requires _ _ _ _ c.choose.ensures.1 (ap (number_of _) c.choose.ensures.0 ∙ c.row_of-row.ensures) in
-    let found = c.parity.ensures ∙ ap (bytes_at _) c.row_of-row.ensures in
+    let found = c.row_parity.ensures ∙ ap (bytes_at _) c.row_of-row.ensures in
     let same = c.read_group.auto.marks ∙ c.requires.mark_bytes in
     elim c.if-parity-ne4.branch [
       | then-parity-ne4 w ↦

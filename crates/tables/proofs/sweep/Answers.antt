@@ -13,7 +13,7 @@ returns-in_default c =
 pub loop-r-preserved : goal.loop-r-preserved
 loop-r-preserved c =
     sweep-more _ _ _ c.loop-r.row_sums c.loop-r.column_sums c.loop-r.r c.loop-r.invariant c.loop-r-test.true _ _ c.in-Some.ensures _
-    c.put_parity.ensures
+    c.put_row_parity.ensures
 
 pub returns : goal.returns
 returns c = sweep-ends _ _ _ c.loop-r.row_sums c.loop-r.column_sums c.loop-r.r c.loop-r.invariant c.loop-r-test.false

@@ -27,8 +27,8 @@ one_less-requires-2 c =
 pub returns : goal.returns
 returns c =
     let row : c.row_of-row.result.0 < c.args.sides.rows = omega (arith, c.row_of-row.ensures, row_listed _ _ _ _ _ _ c.requires.ready.room _ c.requires.faulty.0) in
-    let first = ap (λ (l : List ℕ). l ++ c.args.column_lacks.now) c.add_to_sum.ensures ∙ first-added c.args.row_lacks.now c.args.column_lacks.now c.args.sides.rows c.requires.ready.row_bytes _ _ row in
-    let second = ap (λ (l : List ℕ). c.add_to_sum.new.sums ++ l) c.add_to_sum-2.ensures ∙ second-added c.add_to_sum.new.sums c.args.column_lacks.now c.args.sides.rows (c.add_to_sum.auto.sums ∙ c.requires.ready.row_bytes) _ _ in
+    let first = ap (λ (l : List ℕ). l ++ c.args.column_lacks.now) c.add_to_row_sum.ensures ∙ first-added c.args.row_lacks.now c.args.column_lacks.now c.args.sides.rows c.requires.ready.row_bytes _ _ row in
+    let second = ap (λ (l : List ℕ). c.add_to_row_sum.new.row_sums ++ l) c.add_to_column_sum.ensures ∙ second-added c.add_to_row_sum.new.row_sums c.args.column_lacks.now c.args.sides.rows (c.add_to_row_sum.auto.row_sums ∙ c.requires.ready.row_bytes) _ _ in
     let in-row = rw c.into.ensures at c.one_less.ensures in
     let in-column = rw c.into-2.ensures at c.one_less-2.ensures in
     λ parity s w carried long line-is.

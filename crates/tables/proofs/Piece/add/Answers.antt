@@ -15,6 +15,6 @@ loop-i-preserved c =
     let at = c.args.column.0 + c.loop-i.i in
     adding-more _ _ _ _ c.loop-i.column_sums c.args.sum c.loop-i.total c.loop-i.invariant held c.told-column_sums
     (omega arith) _ _
-    (c.add_to_sum.ensures
+    (c.add_to_column_sum.ensures
     ∙ ap (λ (l : List ℕ). put_bytes c.loop-i.column_sums at (xor_bytes (bytes_at c.loop-i.column_sums at) l)) c.line-line.ensures)
     (c.xor_bytes-next.ensures ∙ ap (xor_bytes c.loop-i.total) c.line-line.ensures)
