@@ -310,10 +310,16 @@ pub extern "C" fn sudoku_wear_compare(a: &[u64], b: &[u64], order: &mut u32) -> 
 pub extern "C" fn sudoku_open_file(file: &[u8], layout: &mut [u64; 8]) -> u32
     ensures { record { answer = result; numbers = layout.new } ≡ layout_in file.now }
 {
-    let found = places::layout_of(file);
-    let numbers = found.unwrap_or([0; 8]);
-    *layout = numbers;
-    answer(found)
+    match places::layout_of(file) {
+        Ok(numbers) => {
+            *layout = numbers;
+            0
+        }
+        Err(refusal) => {
+            *layout = [0; 8];
+            refusal.into()
+        }
+    }
 }
 
 // The header of a store file of given rows and columns.
