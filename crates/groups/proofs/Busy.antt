@@ -2,17 +2,19 @@
 use mathlib.Core.Path.{◌≡◌, refl, sym, ap, ◌∙◌}
 use mathlib.Core.Bool.{Bool, true, false, not, cond}
 use Rattle.std.specs.Prelude.{◌==◌, count_by}
-use mathlib.Core.List.{List, [], ◌∷◌, ◌++◌}
+use mathlib.Core.List.{List, [], ◌∷◌, ◌++◌, append-nil}
 use Prim.Native.Nat.{ℕ, zero, suc, ◌+◌, ◌≤◌, ◌<◌}
 use native.Mathlib.Nat.{suc-add, zero-add}
+use native.Mathlib.Numerals.{add-one}
 use native.Mathlib.Omega.{arith}
-use lib.ListN.{length, take, drop, take-append-drop}
+use lib.ListN.{length, take, drop, get_or, take-append-drop}
+use lib.Seq.{take-suc}
 use Rattle.gf2.specs.Word.{Word, digits, number, weight}
 use Rattle.gf2.proofs.Digits.{number_small}
 use Rattle.linecode.specs.Places.{bits_of, places}
 use Rattle.std.proofs.lemmas.List.Sums.{sum_by-cons}
 use borrow.Author.Tests.{eqb-false}
-use Rattle.linecode.proofs.Bytes.{Bytes, bytes_take}
+use Rattle.linecode.proofs.Bytes.{Bytes, bytes_take, bits_of-append}
 use Rattle.promises.proofs.LineLayout.{layout}
 use Rattle.scheme.specs.Visit.{set_places}
 use Rattle.scheme.proofs.Words.{length-set_places}
@@ -21,6 +23,16 @@ weight-append : (x y : Word) → weight (x ++ y) ≡ weight x + weight y
 weight-append [] y = sym (zero-add (weight y))
 weight-append (false ∷ x) y = weight-append x y
 weight-append (true ∷ x) y = ap suc (weight-append x y) ∙ sym (suc-add (weight x) (weight y))
+
+-- a byte more
+pub next-weight : (line : List ℕ) (i : ℕ) → i < length line
+    → weight (bits_of (take (i + 1) line)) ≡ weight (bits_of (take i line)) + weight (digits 8 (get_or line i 0))
+next-weight line i h =
+    ap (λ (k : ℕ). weight (bits_of (take k line))) (add-one i)
+    ∙ ap (λ (l : List ℕ). weight (bits_of l)) (take-suc line i 0 h)
+    ∙ ap weight (bits_of-append (take i line) (get_or line i 0 ∷ []))
+    ∙ weight-append (bits_of (take i line)) (bits_of (get_or line i 0 ∷ []))
+    ∙ ap (λ (w : Word). weight (bits_of (take i line)) + weight w) (append-nil (digits 8 (get_or line i 0)))
 
 light-zero : (w : Word) → weight w ≡ 0 → number w ≡ 0
 light-zero [] e = refl

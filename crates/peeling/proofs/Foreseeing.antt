@@ -6,10 +6,6 @@ use lib.ListN.{length}
 use Rattle.scheme.specs.Layer.{Cell}
 use Rattle.scheme.specs.Repair.{marks_of}
 use Rattle.scheme.specs.Forecast.{flagged, foreseen}
-use Rattle.rectangle.specs.declared.answers.Refusal.{Refusal}
-use Rattle.rectangle.specs.declared.answers.Outcome.TheVariants.{Done}
-use Rattle.rectangle.specs.Answers.{number_of}
-use Rattle.rectangle.proofs.Numbers.{number-no-outcome}
 use Rattle.rectangle.proofs.Groups.{sides}
 use Rattle.forecast.specs.Forecast.{foreseen_in, forecast_refusal, Forecast, forecast}
 use Rattle.forecast.proofs.Answers.{refused, runs, sizes}
@@ -17,11 +13,10 @@ use Rattle.peeling.specs.Lent.{Sides, RanPasses, mark_of}
 
 module _ (rows columns : ℕ) (pattern marks : List ℕ) where
   -- turned back
-  pub turned_back : (refusal : Refusal) → number_of refusal ≡ forecast_refusal rows columns pattern marks
-      → ◌≡◌ {A = Forecast} (record { answer = number_of refusal; passes = 0; marks = marks }) (forecast rows columns pattern marks)
-  turned_back refusal is =
-      sym (refused rows columns pattern marks (λ e. number-no-outcome refusal Done (is ∙ e))
-      ∙ ap (λ x. record { answer = x; passes = 0; marks = marks }) (sym is))
+  pub turned_back : (a : ℕ) → a ≡ forecast_refusal rows columns pattern marks → (a ≡ 0 → ⊥)
+      → ◌≡◌ {A = Forecast} (record { answer = a; passes = 0; marks = marks }) (forecast rows columns pattern marks)
+  turned_back a is d =
+      sym (refused rows columns pattern marks (λ e. d (is ∙ e)) ∙ ap (λ x. record { answer = x; passes = 0; marks = marks }) (sym is))
 
   module _ (none : 0 ≡ forecast_refusal rows columns pattern marks) where
     -- what the tests have seen

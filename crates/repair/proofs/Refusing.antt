@@ -8,12 +8,9 @@ use borrow.Author.Tests.{eqb-true}
 use lib.Dec.{eqb}
 use lib.ListN.{length}
 use Rattle.linecode.specs.Places.{line_bytes}
-use Rattle.rectangle.specs.declared.answers.Refusal.{Refusal}
-use Rattle.rectangle.specs.Answers.{number_of}
 use Rattle.rectangle.specs.Refusals.{unless, holds, tables_fit, repair_refusal}
 use Rattle.rectangle.proofs.Groups.{sides}
 use Rattle.rectangle.proofs.Refusing.{size_tests, sizes-refused, sizes-then, SizesPass}
-use Rattle.rectangle.proofs.Numbers.{number-not-zero}
 use Rattle.rectangle.proofs.Tests.{passed}
 use Rattle.groups.specs.Lent.{Rectangular}
 
@@ -25,10 +22,9 @@ module _ (rows columns : ℕ) (lines rt ct out marks ro co : List ℕ) where
   abbrev repair_tests : ℕ
   repair_tests = unless (tables_fit rows columns ro co) 6 last_tests
 
-  pub refused-sizes : (refusal : Refusal) → number_of refusal ≡ size_tests rows columns lines rt ct
-      → number_of refusal ≡ repair_refusal rows columns lines rt ct out marks ro co
+  pub refused-sizes : (r : ℕ) → r ≡ size_tests rows columns lines rt ct → (r ≡ 0 → ⊥) → r ≡ repair_refusal rows columns lines rt ct out marks ro co
   unfolding repair_refusal
-  refused-sizes refusal e = sym (sizes-refused rows columns lines rt ct (number_of refusal) repair_tests e (number-not-zero refusal))
+  refused-sizes r e d = sym (sizes-refused rows columns lines rt ct r repair_tests e d)
 
   -- not refused: the buffers have the lengths that they need
   pub record RepairPass : Type 0 where

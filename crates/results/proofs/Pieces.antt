@@ -34,11 +34,11 @@ piece-at (suc k) (suc i) marks h =
 module _ (marks : List ℕ) (counts : Counts) (i : ℕ) (p : SoFar marks counts i) (size : ℕ) (room : i + size ≤ length marks) (piece : Counts)
     (e : piece ≡ counts_of (take size (drop i marks))) where
   -- a piece more
-  together : plus_counts counts piece ≡ counts_of (take (i + size) marks)
+  pub together : plus_counts counts piece ≡ counts_of (take (i + size) marks)
   together =
       rw (p.counted, e) (sym (counts-together (take i marks) (take size (drop i marks)))) ∙ ap counts_of (sym (take-add i size marks))
 
-  piece-fits : total counts + total piece ≤ length marks
+  pub piece-fits : total counts + total piece ≤ length marks
   unfolding plus_counts
   piece-fits =
       let same = ap total together in
