@@ -1,7 +1,7 @@
 // The CRC's sixteen tables, for no to fifteen bytes after a byte, two in one: read-only data that is compiled in.
 #![tactic(auto)]
 
-ghost use Rattle.std.specs.Prelude.{◌≡◌, ◌+◌, ◌*◌, ◌/◌, ◌%◌, ◌^◌, ◌<◌, get_or};
+ghost use Rattle.std.specs.Prelude.{◌≡◌, ◌+◌, ◌*◌, ◌/◌, ◌%◌, ◌^◌, ◌≤◌, ◌<◌, get_or};
 ghost use Rattle.register.specs.Slices.{slice_table};
 
 // Entry b of table k: the register when k bytes have followed byte b, and above it, from 2^32 on, the register when k + 8 have.
@@ -2072,11 +2072,14 @@ static PAIRS: [[u64; 256]; 8] = [
     ],
 ];
 
-// Entry b of table k. Public for the crate `single`, which reads each table at one place.
+// Entry b of table k, or 0 where there is no such table. Public for the crate `single`, which reads each table at one place.
 pub fn entry(k: usize, b: u8) -> u64
-    requires { k < 8 }
-    ensures near { result % 2 ^ 32 ≡ get_or slice_table (256 * k + b) 0 }
-    ensures far { result / 2 ^ 32 ≡ get_or slice_table (256 * (8 + k) + b) 0 }
+    ensures near { k < 8 → result % 2 ^ 32 ≡ get_or slice_table (256 * k + b) 0 }
+    ensures far { k < 8 → result / 2 ^ 32 ≡ get_or slice_table (256 * (8 + k) + b) 0 }
+    ensures past { 8 ≤ k → result ≡ 0 }
 {
-    PAIRS[k][b as usize]
+    if k < 8 {
+        return PAIRS[k][b as usize];
+    }
+    0
 }

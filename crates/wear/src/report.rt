@@ -19,7 +19,11 @@ pub fn empty_report() -> Wear
 fn left_of(sum: u64, a: u64, b: u64, c: u64, d: u64, e: u64) -> Option<u64>
     ensures { MatchOption result (sum < a + b + c + d + e) (λ left. left + (a + b + c + d + e) ≡ sum) }
 {
-    sum.checked_sub(a)?.checked_sub(b)?.checked_sub(c)?.checked_sub(d)?.checked_sub(e)
+    sum.checked_sub(a)?
+        .checked_sub(b)?
+        .checked_sub(c)?
+        .checked_sub(d)?
+        .checked_sub(e)
 }
 
 // Whether the lines for each mark add up to the lines.
