@@ -1,5 +1,6 @@
 // The shares of rebuilt lines of two reports, compared by cross products.
-ghost use Rattle.std.specs.Prelude.{◌≡◌, ◌*◌};
+ghost use Rattle.std.specs.Prelude.{◌≡◌, true, ◌*◌, ◌<◌};
+ghost use Rattle.tour.specs.Adding.{is_report};
 ghost use Rattle.tour.specs.Given.{compared_as};
 ghost use Rattle.tour.specs.Share.{order_number, out_of, share_order, compare_shares};
 
@@ -8,9 +9,10 @@ use rectangle::answers::Refusal;
 use std::cmp::Ordering;
 use tour::Wear;
 
-// The product of two numbers, which 128 bits hold.
+// The product of two numbers of 42 bits, as a report's are.
 #[tactic(auto, using(crate::proofs::Products::product_fits))]
 fn product(x: u64, y: u64) -> u128
+    requires { (x < 4398046511104) × (y < 4398046511104) }
     ensures { result ≡ x * y }
 {
     u128::from(x) * u128::from(y)
@@ -26,6 +28,7 @@ fn out_of(w: Wear) -> u64
 
 // The order of the shares of two reports.
 fn share_order(a: Wear, b: Wear) -> Ordering
+    requires { (is_report a ≡ true) × (is_report b ≡ true) }
     ensures { order_number result ≡ share_order a b }
 {
     let first = product(a.marks.rebuilt, out_of(b));
